@@ -1,0 +1,6 @@
+pub mod Lists
+pub mod Orders
+pub mod Walks
+pub mod Needs
+pub mod Criterion
+pub mod Clock
