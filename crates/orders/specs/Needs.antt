@@ -1,5 +1,4 @@
 -- Duties that need holdings and set at most one: what a duty asks, when that is met, what it sets. Definitions only.
-use mathlib.Core.Path.{_≡_}
 use mathlib.Core.Bool.{Bool, true, false, _&&_, cond, Bool·beq}
 use mathlib.Core.Option.{Option, none, some}
 use mathlib.Core.List.{List, [], _∷_}
@@ -14,8 +13,6 @@ pub record Duties : Type 1 where
   pub serial : Duty → ℕ
   pub whollyBefore : Duty → Duty → Bool
   pub same : Holding → Holding → Bool
-  pub same-refl : (h : Holding) → same h h ≡ true
-  pub same-true : (h k : Holding) → same h k ≡ true → h ≡ k
   -- what a duty needs; none where there is no permission or rule for it
   pub asks : Duty → Option (List (Holding × Bool))
   -- the holding that it sets, and to what

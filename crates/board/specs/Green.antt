@@ -1,0 +1,46 @@
+-- The board as a world of the theory of orders, and with that when a board is green and what a failing order of it is.
+-- Definitions only.
+use mathlib.Core.Bool.{Bool}
+use mathlib.Core.List.{List}
+use Prim.Native.Nat.{ℕ}
+use Rattle.orders.specs.Orders as orders
+use Rattle.orders.specs.Orders.{World}
+use Rattle.orders.specs.Needs.{Duties, met, world}
+use Rattle.board.specs.declared.Duty.{Duty}
+use Rattle.board.specs.declared.Permission.{Permission}
+use Rattle.board.specs.declared.Rule.{Rule}
+use Rattle.board.specs.declared.What.{What}
+use Rattle.board.specs.Permitted.{Holding, sameHolding, heldIn, askedFor, needs, effectOf, whollyBefore}
+use Rattle.board.specs.View.{View}
+
+-- duties under these permissions and rules
+abbrev pub dutiesUnder : List Permission → List Rule → Duties
+dutiesUnder permissions rules =
+    record {
+      Duty = Duty;
+      Holding = Holding;
+      serial = λ d. d .serial .0;
+      whollyBefore = whollyBefore;
+      same = sameHolding;
+      asks = λ d. needs (d .doer) (askedFor permissions rules (d .what));
+      effect = λ d. effectOf (d .what);
+    }
+
+abbrev pub dutiesOf : View → Duties
+dutiesOf v = dutiesUnder (v .permissions) (v .rules)
+
+abbrev pub worldOf : View → World
+worldOf v = world (dutiesOf v)
+
+-- The doer may do this now.
+abbrev pub permittedNow : View → ℕ → What → Bool
+permittedNow v doer what =
+    met (dutiesOf v) (heldIn (v .holdings)) (needs doer (askedFor (v .permissions) (v .rules) what))
+
+-- In every order that the windows allow, and at each point in it, the next duty is permitted.
+abbrev pub Green : View → Type 0
+Green v = orders.Green (worldOf v) (heldIn (v .holdings)) (v .duties)
+
+-- These serials are the beginning of an allowed order whose duties are all permitted in turn except the last.
+abbrev pub FailingOrder : View → List ℕ → Type 0
+FailingOrder v serials = orders.FailingSerials (worldOf v) (heldIn (v .holdings)) (v .duties) serials

@@ -1,0 +1,6 @@
+pub mod Limits
+pub mod Filler
+pub mod View
+pub mod Good
+pub mod Permitted
+pub mod Green

@@ -1,0 +1,90 @@
+-- When something to be done is permitted, and what it changes: document 01, section Permitted. Definitions only; that
+-- they say document 01's sentences is proved in proofs/Sentences.antt.
+use mathlib.Core.Bool.{Bool, true, false, _&&_}
+use mathlib.Core.Option.{Option, none, some}
+use mathlib.Core.List.{List, [], _∷_, _++_, map}
+use Prim.Native.Nat.{ℕ, zero, suc}
+use lib.Dec.{eqb, ltb}
+use lib.ListN.{getD}
+use Rattle.orders.specs.Lists.{keep, find}
+use Rattle.roles.specs.Roles.{inSet}
+use Rattle.board.specs.declared.Asked.{Asked}
+use Rattle.board.specs.declared.Asked.the-variants.{Nothing, Role, Meets}
+use Rattle.board.specs.declared.Duty.{Duty}
+use Rattle.board.specs.declared.Permission.{Permission}
+use Rattle.board.specs.declared.Rule.{Rule}
+use Rattle.board.specs.declared.What.{What}
+use Rattle.board.specs.declared.What.the-variants.{Grant, Revoke, Use}
+use Rattle.board.specs.Limits.{maxRoles}
+
+-- ---- holdings
+
+-- a user and a role
+abbrev pub Holding : Type 0
+Holding = ℕ × ℕ
+
+abbrev pub sameHolding : Holding → Holding → Bool
+sameHolding h k = eqb (h .0) (k .0) && eqb (h .1) (k .1)
+
+-- who holds what, by the set of each user; nobody past the end of the list holds a role
+abbrev pub heldIn : List ℕ → Holding → Bool
+heldIn sets h = inSet (getD sets (h .0) 0) (h .1)
+
+-- the numbers below n, rising
+abbrev pub below : ℕ → List ℕ
+below zero = []
+below (suc n) = below n ++ (n ∷ [])
+
+-- the roles of a set, lowest first
+unfoldable pub rolesIn : ℕ → List ℕ
+rolesIn set = keep (inSet set) (below maxRoles)
+
+-- ---- what is asked
+
+-- the permission is for this action and object
+abbrev pub isFor : ℕ → ℕ → Permission → Bool
+isFor action object p = eqb (p .action) action && eqb (p .object) object
+
+-- the rule is of this kind and for this role
+abbrev pub governs : ℕ → ℕ → Rule → Bool
+governs kind role r = eqb (r .kind) kind && eqb (r .role) role
+
+abbrev pub byPermission : Option Permission → Asked
+byPermission none = Nothing
+byPermission (some p) = Role (p .role)
+
+abbrev pub byRule : ℕ → Option Rule → Asked
+byRule target none = Nothing
+byRule target (some r) = Meets target r
+
+-- what the permissions and rules ask for this to be done: kind 0 is assign, kind 1 is revoke
+abbrev pub askedFor : List Permission → List Rule → What → Asked
+askedFor permissions rules (Grant target role) = byRule target (find (governs 0 role) rules)
+askedFor permissions rules (Revoke target role) = byRule target (find (governs 1 role) rules)
+askedFor permissions rules (Use action object) = byPermission (find (isFor action object) permissions)
+
+-- each of these roles is to be held (or not) by the user
+abbrev pub each : Bool → ℕ → List ℕ → List (Holding × Bool)
+each held user roles = map (λ role. ((user, role), held)) roles
+
+-- The needs: a holding, and whether it is to be held. The doer holds the permission's role; or the doer holds the
+-- rule's actor role, and the target holds every wanted role and no barred role.
+abbrev pub needs : ℕ → Asked → Option (List (Holding × Bool))
+needs doer Nothing = none
+needs doer (Role role) = some (((doer, role), true) ∷ [])
+needs doer (Meets target rule) =
+    some
+    (((doer, rule .actor), true)
+    ∷ (each true target (rolesIn (rule .wanted)) ++ each false target (rolesIn (rule .barred))))
+
+-- ---- what is changed, and windows
+
+-- the holding that is set, and to what; a use changes no holding
+abbrev pub effectOf : What → Option (Holding × Bool)
+effectOf (Grant target role) = some ((target, role), true)
+effectOf (Revoke target role) = some ((target, role), false)
+effectOf (Use action object) = none
+
+-- the end of b is less than the start of c
+abbrev pub whollyBefore : Duty → Duty → Bool
+whollyBefore b c = ltb (b .end) (c .start)

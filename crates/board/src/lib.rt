@@ -1,0 +1,157 @@
+// The board: who holds which role, permissions, rules and duties, its limits, its filler and the smallest board; and
+// the test of a board value (a value that fails it gets answer 19).
+ghost use mathlib.Core.Path.{_≡_};
+ghost use Rattle.board.specs.Filler.{noPermission, noRule, noDuty, smallestBoard};
+
+// A duty is called by its serial and never by its place in the pool.
+pub struct Serial(pub u32);
+
+// What is to be done.
+pub enum What {
+    Grant { target: u16, role: u16 },
+    Revoke { target: u16, role: u16 },
+    Use { action: u16, object: u16 },
+}
+
+// A duty: who is to do what, from start to end.
+pub struct Duty {
+    pub serial: Serial,
+    pub doer: u16,
+    pub what: What,
+    pub start: u32,
+    pub end: u32,
+}
+
+// A use of the action on the object needs the role.
+pub struct Permission {
+    pub role: u16,
+    pub action: u16,
+    pub object: u16,
+}
+
+// Who holds the actor role may assign (kind 0) or revoke (kind 1) the role for a target that holds every wanted role
+// and no barred one.
+pub struct Rule {
+    pub kind: u16,
+    pub actor: u16,
+    pub role: u16,
+    pub wanted: u32,
+    pub barred: u32,
+}
+
+// What something to be done asks of the holdings: nothing can be asked where no permission or rule is there; the doer
+// is to hold a role; or doer and target are to meet a rule.
+pub enum Asked {
+    Nothing,
+    Role(u16),
+    Meets { target: u16, rule: Rule },
+}
+
+// How many there are of each. Room beyond a count holds the filler.
+pub struct Counts {
+    pub users: u16,
+    pub roles: u16,
+    pub permissions: u16,
+    pub rules: u16,
+    pub duties: u16,
+}
+
+pub struct Board {
+    pub counts: Counts,
+    pub clock: u32,
+    pub next: Serial,
+    pub holdings: [u32; Board::USERS],
+    pub permissions: [Permission; Board::PERMISSIONS],
+    pub rules: [Rule; Board::RULES],
+    pub duties: [Duty; Board::DUTIES],
+}
+
+impl Permission {
+    // What stands beyond the permissions.
+    pub fn filler() -> Self
+        ensures { λ r. ⌜ r ≡ noPermission ⌝ }
+    {
+        Permission {
+            role: 0,
+            action: 0,
+            object: 0,
+        }
+    }
+}
+
+impl Rule {
+    // What stands beyond the rules.
+    pub fn filler() -> Self
+        ensures { λ r. ⌜ r ≡ noRule ⌝ }
+    {
+        Rule {
+            kind: 0,
+            actor: 0,
+            role: 0,
+            wanted: 0,
+            barred: 0,
+        }
+    }
+}
+
+impl Duty {
+    // What stands beyond the duties.
+    pub fn filler() -> Self
+        ensures { λ r. ⌜ r ≡ noDuty ⌝ }
+    {
+        Duty {
+            serial: Serial(0),
+            doer: 0,
+            what: What::Grant { target: 0, role: 0 },
+            start: 0,
+            end: 0,
+        }
+    }
+}
+
+impl Board {
+    // The limits.
+    pub const USERS: usize = 64;
+
+    pub const ROLES: usize = 32;
+
+    pub const PERMISSIONS: usize = 512;
+
+    pub const RULES: usize = 64;
+
+    pub const DUTIES: usize = 128;
+
+    pub const ACTIONS: u16 = 64;
+
+    pub const OBJECTS: u16 = 256;
+
+    // One user with no role, one role, clock 0, next serial 1, nothing else.
+    pub fn smallest() -> Self
+        ensures { λ r. ⌜ r ≡ smallestBoard ⌝ }
+    {
+        let counts = Counts {
+            users: 1,
+            roles: 1,
+            permissions: 0,
+            rules: 0,
+            duties: 0,
+        };
+        let permission = Permission::filler();
+        let rule = Rule::filler();
+        let duty = Duty::filler();
+        let holdings = [0u32; Board::USERS];
+        let permissions = [permission; Board::PERMISSIONS];
+        let rules = [rule; Board::RULES];
+        let duties = [duty; Board::DUTIES];
+        let next = Serial(1);
+        Board {
+            counts,
+            clock: 0,
+            next,
+            holdings,
+            permissions,
+            rules,
+            duties,
+        }
+    }
+}

@@ -1,0 +1,22 @@
+-- `roles::with_role` meets its contract: the shifted 1 is the number with the role's bit. Assumes nothing.
+use mathlib.Core.Path.{refl}
+use borrow.Author.Needs.{needs}
+use borrow.Author.Tests.{lt-ltb, le-ltb}
+use Rattle.roles.specs.Roles.{withRole}
+use Rattle.roles.proofs.Laws.{shifted}
+use Rattle.roles.proofs.with_role.Statement.{statement}
+use Rattle.roles.proofs.with_role.Tie as tie
+
+shl-result : tie.Need-shl-result
+shl-result c = search needs
+
+returns : tie.Need-returns
+unfolding withRole
+returns c = rw (lt-ltb _ _ (c .if1 .taken), shifted (c .before .args .role) (c .if1 .taken))
+
+returns-2 : tie.Need-returns-2
+unfolding withRole
+returns-2 c = rw (le-ltb _ _ (c .if1 .left))
+
+pub with-role-spec : {M : Type 1} → statement M
+with-role-spec = tie.close (tie.spec shl-result returns returns-2)

@@ -1,0 +1,22 @@
+-- `roles::without_role` meets its contract: the shifted 1 is the number with the role's bit. Assumes nothing.
+use mathlib.Core.Path.{refl}
+use borrow.Author.Needs.{needs}
+use borrow.Author.Tests.{lt-ltb, le-ltb}
+use Rattle.roles.specs.Roles.{withoutRole}
+use Rattle.roles.proofs.Laws.{shifted}
+use Rattle.roles.proofs.without_role.Statement.{statement}
+use Rattle.roles.proofs.without_role.Tie as tie
+
+shl-one : tie.Need-shl-one
+shl-one c = search needs
+
+returns : tie.Need-returns
+unfolding withoutRole
+returns c = rw (lt-ltb _ _ (c .if1 .taken), shifted (c .before .args .role) (c .if1 .taken))
+
+returns-2 : tie.Need-returns-2
+unfolding withoutRole
+returns-2 c = rw (le-ltb _ _ (c .if1 .left))
+
+pub without-role-spec : {M : Type 1} → statement M
+without-role-spec = tie.close (tie.spec shl-one returns returns-2)
