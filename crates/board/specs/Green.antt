@@ -34,8 +34,7 @@ worldOf v = world (dutiesOf v)
 
 -- The doer may do this now.
 abbrev pub permittedNow : View → ℕ → What → Bool
-permittedNow v doer what =
-    met (dutiesOf v) (heldIn (v .holdings)) (needs doer (askedFor (v .permissions) (v .rules) what))
+permittedNow v doer what = met (heldIn (v .holdings)) (needs doer (askedFor (v .permissions) (v .rules) what))
 
 -- In every order that the windows allow, and at each point in it, the next duty is permitted.
 abbrev pub Green : View → Type 0

@@ -5,9 +5,9 @@ use mathlib.Core.Option.{Option, none, some}
 use mathlib.Core.List.{List, [], _∷_, _++_, map}
 use Prim.Native.Nat.{ℕ, zero, suc}
 use lib.Dec.{eqb, ltb}
-use lib.ListN.{getD}
+use lib.ListN.{getD, set}
 use Rattle.orders.specs.Lists.{keep, find}
-use Rattle.roles.specs.Roles.{inSet}
+use Rattle.roles.specs.Roles.{inSet, withRole, withoutRole}
 use Rattle.board.specs.declared.Asked.{Asked}
 use Rattle.board.specs.declared.Asked.the-variants.{Nothing, Role, Meets}
 use Rattle.board.specs.declared.Duty.{Duty}
@@ -84,6 +84,12 @@ abbrev pub effectOf : What → Option (Holding × Bool)
 effectOf (Grant target role) = some ((target, role), true)
 effectOf (Revoke target role) = some ((target, role), false)
 effectOf (Use action object) = none
+
+-- the sets of roles once this was done; a target past the end of the list changes nothing
+abbrev pub changed : List ℕ → What → List ℕ
+changed sets (Grant target role) = set sets target (withRole (getD sets target 0) role)
+changed sets (Revoke target role) = set sets target (withoutRole (getD sets target 0) role)
+changed sets (Use action object) = sets
 
 -- the end of b is less than the start of c
 abbrev pub whollyBefore : Duty → Duty → Bool

@@ -31,14 +31,14 @@ module _ (D : Duties) where
   pub record CanBeWrong (s : Holdings D) (pool : List Duty) (d : Duty) : Type 0 where
     pub holding : Holding
     pub value : Bool
-    pub need : Mem (holding, value) (needed D (asks d))
+    pub need : Mem (holding, value) (needed (asks d))
     pub why : StaysWrong s pool d holding value ⊎ MadeWrong pool d holding value
 
   -- Some duty has no permission or rule, or some holding that it needs can be wrong before it.
   pub record Red (s : Holdings D) (pool : List Duty) : Type 0 where
     pub d : Duty
     pub open-d : Mem d pool
-    pub why : (ruled D (asks d) ≡ false) ⊎ CanBeWrong s pool d
+    pub why : (ruled (asks d) ≡ false) ⊎ CanBeWrong s pool d
 
   -- ---- the same as tests
 
@@ -58,8 +58,8 @@ module _ (D : Duties) where
 
   abbrev pub redAt : Holdings D → List Duty → Duty → Bool
   redAt s pool d =
-      not (ruled D (asks d))
-      || any (λ n. staysWrong s pool d (n .0) (n .1) || madeWrong pool d (n .0) (n .1)) (needed D (asks d))
+      not (ruled (asks d))
+      || any (λ n. staysWrong s pool d (n .0) (n .1) || madeWrong pool d (n .0) (n .1)) (needed (asks d))
 
   abbrev pub isRed : Holdings D → List Duty → Bool
   isRed s pool = any (redAt s pool) pool

@@ -18,17 +18,28 @@ pub record Duties : Type 1 where
   -- the holding that it sets, and to what
   pub effect : Duty → Option (Holding × Bool)
 
+module _ {H : Type 0} where
+  -- there is a permission or rule
+  abbrev pub ruled : Option (List (H × Bool)) → Bool
+  ruled none = false
+  ruled (some needs) = true
+
+  -- the needs; none where there is no permission or rule
+  abbrev pub needed : Option (List (H × Bool)) → List (H × Bool)
+  needed none = []
+  needed (some needs) = needs
+
+  -- there is a permission or rule, and who holds what meets every need
+  abbrev pub met : (H → Bool) → Option (List (H × Bool)) → Bool
+  met s none = false
+  met s (some needs) = all (λ n. Bool·beq (s (n .0)) (n .1)) needs
+
 module _ (D : Duties) where
   open Duties D using (Duty, Holding, serial, whollyBefore, same, asks, effect)
 
   -- who holds what
   abbrev pub Holdings : Type 0
   Holdings = Holding → Bool
-
-  -- there is a permission or rule, and every need is met
-  abbrev pub met : Holdings → Option (List (Holding × Bool)) → Bool
-  met s none = false
-  met s (some needs) = all (λ n. Bool·beq (s (n .0)) (n .1)) needs
 
   abbrev pub change : Holdings → Option (Holding × Bool) → Holdings
   change s none h = s h
@@ -45,16 +56,6 @@ module _ (D : Duties) where
         permitted = λ s d. met s (asks d);
         after = λ s d. change s (effect d);
       }
-
-  -- there is a permission or rule for the duty
-  abbrev pub ruled : Option (List (Holding × Bool)) → Bool
-  ruled none = false
-  ruled (some needs) = true
-
-  -- the needs, none where there is no permission or rule
-  abbrev pub needed : Option (List (Holding × Bool)) → List (Holding × Bool)
-  needed none = []
-  needed (some needs) = needs
 
   -- the effect sets this holding to this value
   abbrev pub setsTo : Option (Holding × Bool) → Holding → Bool → Bool
