@@ -4,3 +4,5 @@ pub mod View
 pub mod Good
 pub mod Permitted
 pub mod Green
+pub mod Numbers
+pub mod Answers

@@ -1,6 +1,7 @@
 // The board: who holds which role, permissions, rules and duties, its limits, its filler and the smallest board; and
 // the test of a board value (a value that fails it gets answer 19).
 ghost use mathlib.Core.Path.{_≡_};
+ghost use Rattle.board.specs.Answers.{plainAnswer, redAnswer};
 ghost use Rattle.board.specs.Filler.{noPermission, noRule, noDuty, smallestBoard};
 
 // A duty is called by its serial and never by its place in the pool.
@@ -152,6 +153,65 @@ impl Board {
             permissions,
             rules,
             duties,
+        }
+    }
+}
+
+// What a call answers: its number, the serial of a duty that was admitted (else 0), and the length of the failing order
+// at the start of the lent list (0 where there is none).
+pub struct Answer {
+    pub number: u8,
+    pub serial: Serial,
+    pub length: usize,
+}
+
+impl Answer {
+    // The answer numbers.
+    pub const DONE: u8 = 0;
+
+    pub const SHORT: u8 = 1;
+
+    pub const VERSION: u8 = 2;
+
+    pub const COUNT: u8 = 3;
+
+    pub const LAYOUT: u8 = 4;
+
+    pub const FIELD: u8 = 5;
+
+    pub const NOT_ABOVE: u8 = 6;
+
+    pub const WINDOW: u8 = 7;
+
+    pub const RED: u8 = 8;
+
+    pub const LIST: u8 = 9;
+
+    pub const LONG: u8 = 18;
+
+    pub const BROKEN: u8 = 19;
+
+    // The answer with this number, no serial and no failing order.
+    pub fn plain(number: u8) -> Self
+        ensures { λ r. ⌜ r ≡ plainAnswer number ⌝ }
+    {
+        let serial = Serial(0);
+        Answer {
+            number,
+            serial,
+            length: 0,
+        }
+    }
+
+    // Red, with a failing order of this length.
+    pub fn red(length: usize) -> Self
+        ensures { λ r. ⌜ r ≡ redAnswer length ⌝ }
+    {
+        let serial = Serial(0);
+        Answer {
+            number: Answer::RED,
+            serial,
+            length,
         }
     }
 }
