@@ -3,7 +3,7 @@
 -- sorts the whole pool into an order. To let a list begin an order, write down after it what it leaves out,
 -- sorted so.
 -- Assumes nothing.
-use mathlib.Core.Path.{_≡_, refl, sym, _∙_, ap, subst}
+use mathlib.Core.Path.{_≡_, refl, sym, _∙_, ap}
 use mathlib.Core.Logic.{_≢_, ⊎-elim}
 use mathlib.Core.Bool.{Bool, true, false, not, cond}
 use mathlib.Core.List.{
@@ -11,7 +11,6 @@ use mathlib.Core.List.{
   [],
   _∷_,
   _++_,
-  append-assoc,
   Memᴰ·append-left,
   Memᴰ·append-right,
   List·Memᴰ·append-cases,
@@ -221,8 +220,3 @@ module _ (W : World) where
               (λ k. clash e (pairwise-across (MayFollow W) ds later (o .spaced) m k .1))
               (List·Memᴰ·append-cases ds (o .every z n));
         }
-
-    -- what a beginning begins with is one too
-    pub begins : (a b : List Duty) → Beginning W pool (a ++ b) → Beginning W pool a
-    begins a b h =
-        begun a (b ++ rest pool (a ++ b)) (subst (Order W pool) (append-assoc a b _) (begin (a ++ b) h))

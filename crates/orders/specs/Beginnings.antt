@@ -3,7 +3,7 @@
 -- order is, and proofs/Failing.antt that what is said here makes one.
 use mathlib.Core.Path.{_≡_}
 use mathlib.Core.Bool.{true, false}
-use mathlib.Core.List.{List, _∷_, _++_}
+use mathlib.Core.List.{List, [], _∷_, _++_}
 use Rattle.orders.specs.Lists.{Mem, Pairwise}
 use Rattle.orders.specs.Orders.{World, MayFollow, Permitted, run}
 
@@ -24,3 +24,11 @@ module _ (W : World) where
     pub is : list ≡ earlier ++ (d ∷ later)
     pub done : Permitted W s earlier
     pub stuck : permitted (run W s earlier) d ≡ false
+
+  -- the duties of the list are permitted in turn except the last, which is not
+  pub record FailsLast (s : State) (list : List Duty) : Type 0 where
+    pub earlier : List Duty
+    pub last : Duty
+    pub is : list ≡ earlier ++ (last ∷ [])
+    pub done : Permitted W s earlier
+    pub stuck : permitted (run W s earlier) last ≡ false
