@@ -8,7 +8,7 @@ use mathlib.Core.Logic.{_↔_}
 use mathlib.Core.Bool.{true, false}
 use mathlib.Core.List.{List, [], _∷_, _++_, append-assoc}
 use Rattle.orders.specs.Orders.{World, Order, Pool, Green, Permitted, Failing, run}
-use Rattle.orders.specs.Beginnings.{Beginning, FirstStuck, FailsLast}
+use Rattle.orders.specs.Beginnings.{Beginning, FirstStuck, FailsLast, GetsStuck}
 use Rattle.orders.proofs.Tests.{by-test, clash}
 use Rattle.orders.proofs.Build.{rest, begin}
 
@@ -111,20 +111,30 @@ module _ (W : World) where
     failing-by list b f =
         rw (f .is) (cut-failing (f .earlier) (f .last) [] (rw (f .is) at b) (f .done) (f .stuck))
 
-    -- an order in which some duty is not permitted begins with a failing order
-    pub stuck-failing :
-        (earlier : List Duty) (d : Duty) (later : List Duty) → Order W pool (earlier ++ (d ∷ later))
-        → permitted (run W s earlier) d ≡ false → (list : List Duty) × Failing W s pool list
-    stuck-failing earlier d later o stuck =
-        let f = first-stuck s earlier d later stuck in (
+  -- ---- some order gets stuck exactly if there is a failing order
+
+  module _ (s : State) (pool : List Duty) where
+    pub stuck→failing : GetsStuck W s pool → (list : List Duty) × Failing W s pool list
+    stuck→failing g =
+        let f = first-stuck s (g .earlier) (g .d) (g .later) (g .stuck) in (
           f .earlier ++ (f .d ∷ []),
           record {
             earlier = f .earlier;
             last = f .d;
             later = f .later;
             is = refl;
-            order = rw (f .is) at o;
+            order = rw (f .is) at (g .order);
             done = f .done;
             stuck = f .stuck;
           },
         )
+
+    pub failing→stuck : (list : List Duty) → Failing W s pool list → GetsStuck W s pool
+    failing→stuck list f =
+        record {
+          earlier = f .earlier;
+          d = f .last;
+          later = f .later;
+          order = f .order;
+          stuck = f .stuck;
+        }

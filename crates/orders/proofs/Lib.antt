@@ -5,3 +5,5 @@ pub mod Build
 pub mod Steps
 pub mod Failing
 pub mod Checked
+pub mod Needs
+pub mod Criterion

@@ -5,7 +5,7 @@ use mathlib.Core.Path.{_≡_}
 use mathlib.Core.Bool.{true, false}
 use mathlib.Core.List.{List, [], _∷_, _++_}
 use Rattle.orders.specs.Lists.{Mem, Pairwise}
-use Rattle.orders.specs.Orders.{World, MayFollow, Permitted, run}
+use Rattle.orders.specs.Orders.{World, MayFollow, Order, Permitted, run}
 
 module _ (W : World) where
   open World W using (Duty, State, whollyBefore, permitted)
@@ -15,6 +15,14 @@ module _ (W : World) where
     pub only : (d : Duty) → Mem d list → Mem d pool
     pub spaced : Pairwise (MayFollow W) list
     pub closed : (y z : Duty) → Mem y list → Mem z pool → whollyBefore z y ≡ true → Mem z list
+
+  -- some allowed order has a duty d that is not permitted in its turn
+  pub record GetsStuck (s : State) (pool : List Duty) : Type 0 where
+    pub earlier : List Duty
+    pub d : Duty
+    pub later : List Duty
+    pub order : Order W pool (earlier ++ (d ∷ later))
+    pub stuck : permitted (run W s earlier) d ≡ false
 
   -- d is the first duty of the list that is not permitted in its turn
   pub record FirstStuck (s : State) (list : List Duty) : Type 0 where
