@@ -7,3 +7,5 @@ pub mod Failing
 pub mod Checked
 pub mod Needs
 pub mod Criterion
+pub mod Decide
+pub mod Fact
