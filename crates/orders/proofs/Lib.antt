@@ -9,3 +9,5 @@ pub mod Needs
 pub mod Criterion
 pub mod Decide
 pub mod Fact
+pub mod Walks
+pub mod Clock
