@@ -1,7 +1,8 @@
--- Duties carried out by the clock: each at the earliest minute that its window and the clock permit. Definitions only.
--- `last d` is the last minute at which d may be done. (Where windows include both ends, it is the window's end.)
+-- Duties carried out by the clock: each at the earliest minute that its window and the clock permit.
+-- `last d` is the last minute at which d may be done: where windows include both ends, the window's end.
+-- Definitions only.
 use mathlib.Core.Path.{_≡_}
-use mathlib.Core.Bool.{Bool, true, false}
+use mathlib.Core.Bool.{true}
 use mathlib.Core.List.{List, [], _∷_}
 use Prim.Native.Nat.{ℕ, _≤_, max}
 use lib.Dec.{ltb}
@@ -20,8 +21,9 @@ module _ (W : World) (start last : W .Duty → ℕ) where
   abbrev pub earliest : ℕ → Duty → ℕ
   earliest clock d = max clock (start d)
 
-  -- Carried out in this order: each duty is done at its earliest minute, the clock does not go back, the minute lies
-  -- in the window, no open duty is wholly before it, and it is permitted. No duty is left in the end.
+  -- Carried out in this order: each duty is done at its earliest minute, the clock does not go back, the
+  -- minute lies in the window, no open duty is wholly before it, and it is permitted. No duty is left in the
+  -- end.
   abbrev pub CarriedOut : ℕ → State → List Duty → List Duty → Type 0
   CarriedOut clock s pool [] = pool ≡ []
   CarriedOut clock s pool (d ∷ order) =

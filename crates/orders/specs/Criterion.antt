@@ -1,6 +1,6 @@
--- Document 01's quick criterion for a red board: some duty has no permission or rule, or some holding that it needs
--- can be wrong before it. Definitions only; that it says red exactly where the board is not green is proved in
--- proofs/Fact.antt.
+-- Document 01's quick criterion for a red board: some duty has no permission or rule, or some holding that it
+-- needs can be wrong before it. Definitions only; that it says red exactly where the board is not green is
+-- proved in proofs/Fact.antt.
 use mathlib.Core.Path.{_≡_}
 use mathlib.Core.Logic.{_≢_, _⊎_}
 use mathlib.Core.Bool.{Bool, true, false, not, _&&_, _||_, Bool·beq}
@@ -17,15 +17,16 @@ module _ (D : Duties) where
     pub now : s h ≡ not p
     pub unset : (g : Duty) → Mem g pool → whollyBefore g d ≡ true → sets D g h p ≡ false
 
-  -- (b) another duty x that sets it wrong, and that d is not wholly before, has no duty setting it right that x is
-  -- wholly before and that is wholly before d
+  -- (b) another duty x that sets it wrong, and that d is not wholly before, has no duty setting it right that
+  -- x is wholly before and that is wholly before d
   pub record MadeWrong (pool : List Duty) (d : Duty) (h : Holding) (p : Bool) : Type 0 where
     pub x : Duty
     pub open-x : Mem x pool
     pub other : serial x ≢ serial d
     pub wrong : sets D x h (not p) ≡ true
     pub late : whollyBefore d x ≡ false
-    pub unset : (g : Duty) → Mem g pool → whollyBefore x g ≡ true → whollyBefore g d ≡ true → sets D g h p ≡ false
+    pub unset :
+        (g : Duty) → Mem g pool → whollyBefore x g ≡ true → whollyBefore g d ≡ true → sets D g h p ≡ false
 
   -- d needs h to be p, and that can be wrong before d
   pub record CanBeWrong (s : Holdings D) (pool : List Duty) (d : Duty) : Type 0 where

@@ -1,6 +1,7 @@
 pub mod Lists
 pub mod Orders
 pub mod Walks
+pub mod Beginnings
 pub mod Needs
 pub mod Criterion
 pub mod Clock

@@ -1,7 +1,8 @@
--- Duties that need holdings and set at most one: what a duty asks, when that is met, what it sets. Definitions only.
+-- Duties that need holdings and set at most one: what a duty asks, when that is met, what it sets.
+-- Definitions only.
 use mathlib.Core.Bool.{Bool, true, false, _&&_, cond, Bool·beq}
 use mathlib.Core.Option.{Option, none, some}
-use mathlib.Core.List.{List, [], _∷_}
+use mathlib.Core.List.{List, []}
 use Prim.Native.Nat.{ℕ}
 use Rattle.orders.specs.Lists.{all}
 use Rattle.orders.specs.Orders.{World}

@@ -6,8 +6,8 @@ use mathlib.Core.List.{List, [], _∷_, _++_, map}
 use Prim.Native.Nat.{ℕ}
 use Rattle.orders.specs.Lists.{Mem, Pairwise}
 
--- What a board is about: duties, each with its serial; which is wholly before which; the states, that is, who holds
--- which role; when a duty is permitted; what doing it changes.
+-- What a board is about: duties, each with its serial; which is wholly before which; the states, that is, who
+-- holds which role; when a duty is permitted; what doing it changes.
 pub record World : Type 1 where
   pub Duty : Type 0
   pub State : Type 0
@@ -38,8 +38,8 @@ module _ (W : World) where
   run s [] = s
   run s (d ∷ l) = run (after s d) l
 
-  -- Green: in every allowed order and at every point in it, the duties before that point having been done, the next
-  -- is permitted. `earlier` may be empty, so a first duty must be permitted too.
+  -- Green: in every allowed order and at every point in it, the duties before that point having been done,
+  -- the next is permitted. `earlier` may be empty, so a first duty must be permitted too.
   abbrev pub Green : State → List Duty → Type 0
   Green s pool =
       (order : List Duty) → Order pool order → (earlier : List Duty) (next : Duty) (later : List Duty)
@@ -50,8 +50,8 @@ module _ (W : World) where
   Permitted s [] = Unit {0}
   Permitted s (d ∷ l) = (permitted s d ≡ true) × Permitted (after s d) l
 
-  -- A failing order: the beginning of an allowed order whose duties are all permitted in turn except the last, which
-  -- is not.
+  -- A failing order: the beginning of an allowed order whose duties are all permitted in turn except the
+  -- last, which is not.
   pub record Failing (s : State) (pool list : List Duty) : Type 0 where
     pub earlier : List Duty
     pub last : Duty

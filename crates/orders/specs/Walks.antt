@@ -1,7 +1,8 @@
--- Doing duties one after the other: what may come next, what is left, and a walk through the pool. Definitions only.
+-- Doing duties one after the other: what may come next, what is left, and a walk through the pool.
+-- Definitions only.
 use mathlib.Core.Path.{_≡_}
 use mathlib.Core.Logic.{_≢_, _⊎_}
-use mathlib.Core.Bool.{Bool, true, false, not}
+use mathlib.Core.Bool.{false, not}
 use mathlib.Core.List.{List, [], _∷_, _++_}
 use lib.Dec.{eqb}
 use Rattle.orders.specs.Lists.{Mem, keep, Pairwise}
@@ -25,7 +26,8 @@ module _ (W : World) where
   abbrev pub without : Duty → List Duty → List Duty
   without d pool = keep (λ y. not (eqb (serial d) (serial y))) pool
 
-  -- A walk takes, at each step, a duty out of the pool that none of those left is wholly before, until none is left.
+  -- A walk takes, at each step, a duty out of the pool that none of those left is wholly before, until none
+  -- is left.
   abbrev pub Walk : List Duty → List Duty → Type 0
   Walk pool [] = pool ≡ []
   Walk pool (d ∷ order) =

@@ -1,0 +1,140 @@
+-- Failing orders. Green says that every order is permitted from its first duty to its last, so a failing
+-- order refutes it. To make one, code builds a beginning in which some duty is not permitted in its turn, and
+-- cuts it after the first such duty: an allowed order that begins with the whole list begins with the cut
+-- list too.
+-- Assumes nothing.
+use mathlib.Core.Path.{_≡_, refl, ap, subst}
+use mathlib.Core.Logic.{_↔_}
+use mathlib.Core.Bool.{true, false}
+use mathlib.Core.List.{List, [], _∷_, _++_, append-assoc}
+use Rattle.orders.specs.Orders.{World, Order, Pool, Green, Permitted, Failing, run}
+use Rattle.orders.specs.Beginnings.{Beginning, FirstStuck, FailsLast, GetsStuck}
+use Rattle.orders.proofs.Tests.{by-test, clash}
+use Rattle.orders.proofs.Build.{rest, begin}
+
+module _ (W : World) where
+  open World W using (Duty, State, permitted, after)
+
+  -- ---- green, said of whole orders
+
+  permitted-at :
+      (s : State) (earlier : List Duty) (d : Duty) (later : List Duty)
+      → Permitted W s (earlier ++ (d ∷ later)) → permitted (run W s earlier) d ≡ true
+  permitted-at s [] d later h = h .0
+  permitted-at s (y ∷ earlier) d later h = permitted-at (after s y) earlier d later (h .1)
+
+  all-permitted :
+      (s : State) (l : List Duty)
+      → ((earlier : List Duty) (d : Duty) (later : List Duty) → l ≡ earlier ++ (d ∷ later)
+      → permitted (run W s earlier) d ≡ true)
+      → Permitted W s l
+  all-permitted s [] h = tt
+  all-permitted s (x ∷ l) h = (
+    h [] x l refl,
+    all-permitted
+        (after s x)
+        l
+        (λ earlier d later e. h (x ∷ earlier) d later (ap (λ (t : List Duty). x ∷ t) e)),
+  )
+
+  pub green↔permitted :
+      (s : State) (pool : List Duty)
+      → Green W s pool ↔ ((order : List Duty) → Order W pool order → Permitted W s order)
+  green↔permitted s pool = (
+    λ g order o. all-permitted s order (g order o),
+    λ f order o earlier d later e. permitted-at s earlier d later (rw e at (f order o)),
+  )
+
+  -- a failing order refutes green
+  pub failing-not-green : (s : State) (pool list : List Duty) → Failing W s pool list → Green W s pool → ⊥
+  failing-not-green s pool list f g =
+      clash (g _ (f .order) (f .earlier) (f .last) (f .later) refl) (f .stuck)
+
+  -- ---- the first that is not permitted
+
+  -- d is not permitted in its turn; so d, or one before it, is the first such duty
+  pub first-stuck :
+      (s : State) (earlier : List Duty) (d : Duty) (later : List Duty)
+      → permitted (run W s earlier) d ≡ false → FirstStuck W s (earlier ++ (d ∷ later))
+  first-stuck s [] d later e =
+      record { earlier = []; d = d; later = later; is = refl; done = tt; stuck = e }
+  first-stuck s (y ∷ earlier) d later e =
+      by-test (permitted s y) (λ t. further t (first-stuck (after s y) earlier d later e)) now
+    where
+      others : List Duty
+      others = earlier ++ (d ∷ later)
+
+      now : permitted s y ≡ false → FirstStuck W s (y ∷ others)
+      now f = record { earlier = []; d = y; later = others; is = refl; done = tt; stuck = f }
+
+      further : permitted s y ≡ true → FirstStuck W (after s y) others → FirstStuck W s (y ∷ others)
+      further t r =
+          record {
+            earlier = y ∷ r .earlier;
+            d = r .d;
+            later = r .later;
+            is = ap (λ (l : List Duty). y ∷ l) (r .is);
+            done = (t, r .done);
+            stuck = r .stuck;
+          }
+
+  -- ---- to make one
+
+  module _ (s : State) (pool : List Duty) (P : Pool W pool) where
+    -- a beginning, cut after a duty that is not permitted, those before it being permitted
+    pub cut-failing :
+        (earlier : List Duty) (d : Duty) (later : List Duty) → Beginning W pool (earlier ++ (d ∷ later))
+        → Permitted W s earlier → permitted (run W s earlier) d ≡ false
+        → Failing W s pool (earlier ++ (d ∷ []))
+    cut-failing earlier d later b done stuck =
+        record {
+          earlier = earlier;
+          last = d;
+          later = later ++ rest W pool whole;
+          is = refl;
+          order = subst (Order W pool) (append-assoc earlier (d ∷ later) _) (begin W pool P whole b);
+          done = done;
+          stuck = stuck;
+        }
+      where
+        whole : List Duty
+        whole = earlier ++ (d ∷ later)
+
+    -- the same, cut after the first that is not permitted
+    pub first-failing :
+        (list : List Duty) → Beginning W pool list → (f : FirstStuck W s list)
+        → Failing W s pool (f .earlier ++ (f .d ∷ []))
+    first-failing list b f = cut-failing (f .earlier) (f .d) (f .later) (rw (f .is) at b) (f .done) (f .stuck)
+
+    -- a beginning whose duties are all permitted in turn but the last
+    pub failing-by : (list : List Duty) → Beginning W pool list → FailsLast W s list → Failing W s pool list
+    failing-by list b f =
+        rw (f .is) (cut-failing (f .earlier) (f .last) [] (rw (f .is) at b) (f .done) (f .stuck))
+
+  -- ---- some order gets stuck exactly if there is a failing order
+
+  module _ (s : State) (pool : List Duty) where
+    pub stuck→failing : GetsStuck W s pool → (list : List Duty) × Failing W s pool list
+    stuck→failing g =
+        let f = first-stuck s (g .earlier) (g .d) (g .later) (g .stuck) in (
+          f .earlier ++ (f .d ∷ []),
+          record {
+            earlier = f .earlier;
+            last = f .d;
+            later = f .later;
+            is = refl;
+            order = rw (f .is) at (g .order);
+            done = f .done;
+            stuck = f .stuck;
+          },
+        )
+
+    pub failing→stuck : (list : List Duty) → Failing W s pool list → GetsStuck W s pool
+    failing→stuck list f =
+        record {
+          earlier = f .earlier;
+          d = f .last;
+          later = f .later;
+          order = f .order;
+          stuck = f .stuck;
+        }

@@ -1,0 +1,13 @@
+pub mod Tests
+pub mod Lists
+pub mod Loops
+pub mod Build
+pub mod Steps
+pub mod Failing
+pub mod Checked
+pub mod Needs
+pub mod Criterion
+pub mod Decide
+pub mod Fact
+pub mod Walks
+pub mod Clock
