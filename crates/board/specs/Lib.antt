@@ -6,3 +6,4 @@ pub mod Permitted
 pub mod Green
 pub mod Numbers
 pub mod Answers
+pub mod Told
