@@ -35,7 +35,7 @@ use Rattle.orders.proofs.Lists.{
 }
 
 module _ (W : World) where
-  open World W using (Duty, State, serial, whollyBefore, permitted, after)
+  open World W using (Duty, State, serial, whollyBefore, after)
 
   pub run-append : (s : State) (a b : List Duty) → run W s (a ++ b) ≡ run W (run W s a) b
   run-append s [] b = refl

@@ -1,7 +1,7 @@
 -- The tests of the criterion agree with its records: `isRed` is true exactly where the board is red by it.
 -- Each test is taken apart into the parts of its record and put together again.
 -- Assumes nothing.
-use mathlib.Core.Path.{_≡_}
+use mathlib.Core.Path.{_≡_, refl}
 use mathlib.Core.Logic.{_↔_, _⊎_, inl, inr, ⊎-elim}
 use mathlib.Core.Bool.{Bool, true, false, not, _&&_, _||_, Bool·beq}
 use mathlib.Core.List.{List}
@@ -58,28 +58,37 @@ module _ (D : Duties) where
 
     -- ---- (b)
 
+    -- x spoils it and nothing mends that
+    pub spoils-is :
+        (x : Duty) → Mem x pool → spoils D d h p x && not (mended D pool d h p x) ≡ true
+        → (w : MadeWrong D pool d h p) × (w .x ≡ x)
+    spoils-is x m t =
+        let (spoiled, open-still) = and-true (spoils D d h p x) (not (mended D pool d h p x)) t in
+        let a = and-true (not (eqb (serial x) (serial d))) _ spoiled in
+        let b = and-true (sets D x h (not p)) (not (whollyBefore d x)) (a .1) in (
+          record {
+            x = x;
+            open-x = m;
+            other = eqb-false (serial x) (serial d) (not-true (eqb (serial x) (serial d)) (a .0));
+            wrong = b .0;
+            late = not-true (whollyBefore d x) (b .1);
+            unset = λ g n f k.
+                none-both
+                (λ g. whollyBefore x g && whollyBefore g d)
+                (λ g. sets D g h p)
+                pool
+                open-still
+                g
+                n
+                (and-both (whollyBefore x g) (whollyBefore g d) f k);
+          },
+          refl,
+        )
+
     pub madeWrong-is : madeWrong D pool d h p ≡ true → MadeWrong D pool d h p
     madeWrong-is e =
         let (x, m, t) = any-true (λ x. spoils D d h p x && not (mended D pool d h p x)) pool e in
-        let (spoiled, open-still) = and-true (spoils D d h p x) (not (mended D pool d h p x)) t in
-        let a = and-true (not (eqb (serial x) (serial d))) _ spoiled in
-        let b = and-true (sets D x h (not p)) (not (whollyBefore d x)) (a .1) in
-        record {
-          x = x;
-          open-x = m;
-          other = eqb-false (serial x) (serial d) (not-true (eqb (serial x) (serial d)) (a .0));
-          wrong = b .0;
-          late = not-true (whollyBefore d x) (b .1);
-          unset = λ g n f k.
-              none-both
-              (λ g. whollyBefore x g && whollyBefore g d)
-              (λ g. sets D g h p)
-              pool
-              open-still
-              g
-              n
-              (and-both (whollyBefore x g) (whollyBefore g d) f k);
-        }
+        spoils-is x m t .0
 
     pub is-madeWrong : MadeWrong D pool d h p → madeWrong D pool d h p ≡ true
     is-madeWrong w =

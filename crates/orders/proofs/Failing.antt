@@ -8,9 +8,11 @@ use mathlib.Core.Logic.{_↔_}
 use mathlib.Core.Bool.{true, false}
 use mathlib.Core.List.{List, [], _∷_, _++_, append-assoc}
 use Rattle.orders.specs.Orders.{World, Order, Pool, Green, Permitted, Failing, run}
-use Rattle.orders.specs.Beginnings.{Beginning, FirstStuck, FailsLast, GetsStuck}
-use Rattle.orders.proofs.Tests.{by-test, clash}
+use Rattle.orders.specs.Beginnings.{Beginning, FirstStuck, FailsLast, GetsStuck, EndsStuck}
+use Rattle.orders.specs.Lines.{goesThrough, cutOff}
+use Rattle.orders.proofs.Tests.{clash}
 use Rattle.orders.proofs.Build.{rest, begin}
+use Rattle.orders.proofs.Cuts.{stuck-at, first-stuck, cut-first}
 
 module _ (W : World) where
   open World W using (Duty, State, permitted, after)
@@ -50,37 +52,28 @@ module _ (W : World) where
   failing-not-green s pool list f g =
       clash (g _ (f .order) (f .earlier) (f .last) (f .later) refl) (f .stuck)
 
-  -- ---- the first that is not permitted
-
-  -- d is not permitted in its turn; so d, or one before it, is the first such duty
-  pub first-stuck :
-      (s : State) (earlier : List Duty) (d : Duty) (later : List Duty)
-      → permitted (run W s earlier) d ≡ false → FirstStuck W s (earlier ++ (d ∷ later))
-  first-stuck s [] d later e =
-      record { earlier = []; d = d; later = later; is = refl; done = tt; stuck = e }
-  first-stuck s (y ∷ earlier) d later e =
-      by-test (permitted s y) (λ t. further t (first-stuck (after s y) earlier d later e)) now
-    where
-      others : List Duty
-      others = earlier ++ (d ∷ later)
-
-      now : permitted s y ≡ false → FirstStuck W s (y ∷ others)
-      now f = record { earlier = []; d = y; later = others; is = refl; done = tt; stuck = f }
-
-      further : permitted s y ≡ true → FirstStuck W (after s y) others → FirstStuck W s (y ∷ others)
-      further t r =
-          record {
-            earlier = y ∷ r .earlier;
-            d = r .d;
-            later = r .later;
-            is = ap (λ (l : List Duty). y ∷ l) (r .is);
-            done = (t, r .done);
-            stuck = r .stuck;
-          }
-
   -- ---- to make one
 
   module _ (s : State) (pool : List Duty) (P : Pool W pool) where
+    -- an allowed order that begins with a beginning
+    begun-order :
+        (earlier : List Duty) (d : Duty) (later : List Duty) → Beginning W pool (earlier ++ (d ∷ later))
+        → Order W pool (earlier ++ (d ∷ (later ++ rest W pool (earlier ++ (d ∷ later)))))
+    begun-order earlier d later b =
+        let whole = earlier ++ (d ∷ later) in
+        subst (Order W pool) (append-assoc earlier (d ∷ later) _) (begin W pool P whole b)
+
+    -- it gets stuck where the beginning ends stuck
+    pub ends→gets : (earlier : List Duty) (d : Duty) → EndsStuck W s pool earlier d → GetsStuck W s pool
+    ends→gets earlier d e =
+        record {
+          earlier = earlier;
+          d = d;
+          later = rest W pool (earlier ++ (d ∷ []));
+          order = begun-order earlier d [] (e .begins);
+          stuck = e .stuck;
+        }
+
     -- a beginning, cut after a duty that is not permitted, those before it being permitted
     pub cut-failing :
         (earlier : List Duty) (d : Duty) (later : List Duty) → Beginning W pool (earlier ++ (d ∷ later))
@@ -90,21 +83,32 @@ module _ (W : World) where
         record {
           earlier = earlier;
           last = d;
-          later = later ++ rest W pool whole;
+          later = later ++ rest W pool (earlier ++ (d ∷ later));
           is = refl;
-          order = subst (Order W pool) (append-assoc earlier (d ∷ later) _) (begin W pool P whole b);
+          order = begun-order earlier d later b;
           done = done;
           stuck = stuck;
         }
-      where
-        whole : List Duty
-        whole = earlier ++ (d ∷ later)
 
     -- the same, cut after the first that is not permitted
     pub first-failing :
         (list : List Duty) → Beginning W pool list → (f : FirstStuck W s list)
         → Failing W s pool (f .earlier ++ (f .d ∷ []))
     first-failing list b f = cut-failing (f .earlier) (f .d) (f .later) (rw (f .is) at b) (f .done) (f .stuck)
+
+    -- a beginning in which some duty is not permitted in its turn, cut
+    pub cut-failing-line :
+        (list : List Duty) → Beginning W pool list → goesThrough W s list ≡ false
+        → Failing W s pool (cutOff W s list)
+    cut-failing-line list b e =
+        let f = first-stuck W s list e in rw (cut-first W s list f) (first-failing list b f)
+
+    -- so also where it is the last duty
+    pub ends→failing :
+        (earlier : List Duty) (d : Duty) → EndsStuck W s pool earlier d
+        → Failing W s pool (cutOff W s (earlier ++ (d ∷ [])))
+    ends→failing earlier d e =
+        cut-failing-line (earlier ++ (d ∷ [])) (e .begins) (stuck-at W s earlier d [] (e .stuck))
 
     -- a beginning whose duties are all permitted in turn but the last
     pub failing-by : (list : List Duty) → Beginning W pool list → FailsLast W s list → Failing W s pool list
@@ -116,7 +120,8 @@ module _ (W : World) where
   module _ (s : State) (pool : List Duty) where
     pub stuck→failing : GetsStuck W s pool → (list : List Duty) × Failing W s pool list
     stuck→failing g =
-        let f = first-stuck s (g .earlier) (g .d) (g .later) (g .stuck) in (
+        let e = stuck-at W s (g .earlier) (g .d) (g .later) (g .stuck) in
+        let f = first-stuck W s (g .earlier ++ (g .d ∷ g .later)) e in (
           f .earlier ++ (f .d ∷ []),
           record {
             earlier = f .earlier;

@@ -2,7 +2,9 @@ pub mod Tests
 pub mod Lists
 pub mod Loops
 pub mod Build
+pub mod Lines
 pub mod Steps
+pub mod Cuts
 pub mod Failing
 pub mod Checked
 pub mod Needs
@@ -10,4 +12,6 @@ pub mod Criterion
 pub mod Decide
 pub mod Fact
 pub mod Walks
+pub mod Lengths
+pub mod LineFails
 pub mod Clock

@@ -10,7 +10,7 @@ use native.Mathlib.Numerals.{add-one}
 use native.Mathlib.Omega.{arith}
 use lib.ListN.{length, getD, take}
 use Rattle.orders.specs.Lists.{Mem, here, there, any, all, keep}
-use Rattle.orders.proofs.Tests.{by-test, or-neither, and-both}
+use Rattle.orders.proofs.Tests.{by-test, or-neither, and-both, and-yes}
 use Rattle.orders.proofs.Lists.{any-mem, not-all}
 
 or-assoc : (a b c : Bool) → a || (b || c) ≡ (a || b) || c
@@ -24,10 +24,6 @@ or-nothing false = refl
 and-assoc : (a b c : Bool) → a && (b && c) ≡ (a && b) && c
 and-assoc true b c = refl
 and-assoc false b c = refl
-
-and-nothing : (b : Bool) → b && true ≡ b
-and-nothing true = refl
-and-nothing false = refl
 
 module _ {A : Type 0} where
   -- a place among the first n holds one of the first n
@@ -87,7 +83,7 @@ module _ {A : Type 0} where
       go :
           (l : List A) (i : ℕ) → i < length l → all p (take (suc i) l) ≡ all p (take i l) && p (getD l i d)
       go [] i h = absurd (not-suc-le-zero h)
-      go (x ∷ l) zero h = and-nothing (p x)
+      go (x ∷ l) zero h = and-yes (p x)
       go (x ∷ l) (suc i) h =
           ap (λ (b : Bool). p x && b) (go l i (le-of-suc-le-suc h))
           ∙ and-assoc (p x) (all p (take i l)) (p (getD l i d))

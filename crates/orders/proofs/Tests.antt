@@ -56,16 +56,36 @@ or-false false b e = (refl, e)
 pub or-neither : (a b : Bool) → a ≡ false → b ≡ false → a || b ≡ false
 or-neither a b p q = rw (p, q)
 
+pub or-same : (a : Bool) → a || a ≡ true → a ≡ true
+or-same true e = refl
+or-same false e = e
+
 -- ---- and
 
 pub and-true : (a b : Bool) → a && b ≡ true → (a ≡ true) × (b ≡ true)
 and-true true b e = (refl, e)
 and-true false b e = clash e refl
 
+pub and-left : (a b : Bool) → a && b ≡ true → a ≡ true
+and-left a b e = and-true a b e .0
+
+pub and-right : (a b : Bool) → a && b ≡ true → b ≡ true
+and-right a b e = and-true a b e .1
+
 pub and-both : (a b : Bool) → a ≡ true → b ≡ true → a && b ≡ true
 and-both a b p q = rw (p, q)
 
+pub and-yes : (b : Bool) → b && true ≡ b
+and-yes true = refl
+and-yes false = refl
+
 -- ---- equal
+
+-- two tests of which each follows from the other
+pub same-test : (a b : Bool) → (a ≡ true → b ≡ true) → (b ≡ true → a ≡ true) → a ≡ b
+same-test true b f g = sym (f refl)
+same-test false true f g = g refl
+same-test false false f g = refl
 
 pub beq-true : (a b : Bool) → Bool·beq a b ≡ true → a ≡ b
 beq-true true true e = refl

@@ -1,7 +1,7 @@
 -- Two other ways to say what an order is. It is a walk: it takes, at each step, a duty that none of those
 -- left is wholly before. And it is a permutation of the open duties that the windows allow.
 -- Assumes nothing.
-use mathlib.Core.Path.{refl, sym, _∙_, subst₂}
+use mathlib.Core.Path.{_≡_, refl, sym, ap, _∙_, subst₂}
 use mathlib.Core.Logic.{_↔_}
 use mathlib.Core.List.{
   List,
@@ -18,6 +18,8 @@ use mathlib.Core.List.{
   Permᴰ·symm,
   Permᴰ·middle,
 }
+use Prim.Native.Nat.{suc}
+use lib.ListN.{length}
 use Rattle.orders.specs.Lists.{Mem, here, there, Pairwise}
 use Rattle.orders.specs.Orders.{World, Order, Pool}
 use Rattle.orders.specs.Walks.{Next, Walk, Allowed}
@@ -27,7 +29,7 @@ use Rattle.orders.proofs.Steps.{place-left, place-pool, next-order, ord
 -- ---- permutations
 
 module _ {A : Type 0} where
-  perm-mem : {a b : List A} → List·Permᴰ a b → {z : A} → Mem z a → Mem z b
+  pub perm-mem : {a b : List A} → List·Permᴰ a b → {z : A} → Mem z a → Mem z b
   perm-mem List·Permᴰ·nil m = m
   perm-mem (List·Permᴰ·cons e p) (here q) = here (q ∙ e)
   perm-mem (List·Permᴰ·cons e p) (there m) = there (perm-mem p m)
@@ -35,6 +37,12 @@ module _ {A : Type 0} where
   perm-mem (List·Permᴰ·swap e f) (there (here q)) = here (q ∙ f)
   perm-mem (List·Permᴰ·swap e f) (there (there m)) = there (there m)
   perm-mem (List·Permᴰ·trans p q) m = perm-mem q (perm-mem p m)
+
+  pub perm-length : {a b : List A} → List·Permᴰ a b → length a ≡ length b
+  perm-length List·Permᴰ·nil = refl
+  perm-length (List·Permᴰ·cons e p) = ap suc (perm-length p)
+  perm-length (List·Permᴰ·swap e f) = refl
+  perm-length (List·Permᴰ·trans p q) = perm-length p ∙ perm-length q
 
   -- a relation that goes both ways does not depend on the order
   perm-pairwise :
@@ -54,7 +62,7 @@ module _ {A : Type 0} where
   perm-pairwise R turn (List·Permᴰ·trans p q) h = perm-pairwise R turn q (perm-pairwise R turn p h)
 
 module _ (W : World) where
-  open World W using (Duty, whollyBefore)
+  open World W using (Duty)
 
   -- ---- walks
 

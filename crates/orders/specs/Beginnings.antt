@@ -40,3 +40,8 @@ module _ (W : World) where
     pub is : list ≡ earlier ++ (last ∷ [])
     pub done : Permitted W s earlier
     pub stuck : permitted (run W s earlier) last ≡ false
+
+  -- a beginning whose last duty d is not permitted in its turn
+  pub record EndsStuck (s : State) (pool earlier : List Duty) (d : Duty) : Type 0 where
+    pub begins : Beginning pool (earlier ++ (d ∷ []))
+    pub stuck : permitted (run W s earlier) d ≡ false
