@@ -1,5 +1,6 @@
--- What a good board value is: every rule of document 01, section Board file, and the filler beyond each count. A value
--- that breaks one of them gets answer 19. Definitions only. The tests of one record are the file reader's too.
+-- What a good board value is: every rule of document 01, section Board file, and the filler beyond each
+-- count. A value that breaks one of them gets answer 19. The tests of one record are the file reader's too.
+-- Definitions only.
 use mathlib.Core.Bool.{Bool, true, false, _&&_, _||_}
 use mathlib.Core.List.{List, [], _∷_}
 use Prim.Native.Nat.{ℕ, _^_}
@@ -13,7 +14,15 @@ use Rattle.board.specs.declared.Permission.{Permission}
 use Rattle.board.specs.declared.Rule.{Rule}
 use Rattle.board.specs.declared.What.{What}
 use Rattle.board.specs.declared.What.the-variants.{Grant, Revoke, Use}
-use Rattle.board.specs.Limits.{maxUsers, maxRoles, maxPermissions, maxRules, maxDuties, actions, objects}
+use Rattle.board.specs.Limits.{
+  maxUsers,
+  maxRoles,
+  maxPermissions,
+  maxRules,
+  maxDuties,
+  actions,
+  objects,
+}
 use Rattle.board.specs.View.{View, view}
 
 -- ---- counts
@@ -129,7 +138,8 @@ abbrev pub fillerBeyond : Board → Bool
 fillerBeyond b =
     all (λ set. eqb set 0) (drop (b .counts .users) (b .holdings))
     && (all isNoPermission (drop (b .counts .permissions) (b .permissions))
-    && (all isNoRule (drop (b .counts .rules) (b .rules)) && all isNoDuty (drop (b .counts .duties) (b .duties))))
+    && (all isNoRule (drop (b .counts .rules) (b .rules))
+    && all isNoDuty (drop (b .counts .duties) (b .duties))))
 
 -- ---- the whole
 

@@ -1,5 +1,5 @@
--- The board as a world of the theory of orders, and with that when a board is green and what a failing order of it is.
--- Definitions only.
+-- The board as a world of the theory of orders, and with that when a board is green and what a failing order
+-- of it is. Definitions only.
 use mathlib.Core.Bool.{Bool}
 use mathlib.Core.List.{List}
 use Prim.Native.Nat.{ℕ}

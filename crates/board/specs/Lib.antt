@@ -4,6 +4,8 @@ pub mod View
 pub mod Good
 pub mod Permitted
 pub mod Green
+pub mod Sentences
+pub mod Cases
 pub mod Numbers
 pub mod Answers
 pub mod Told

@@ -1,4 +1,5 @@
--- The limits of document 01, section Numbers, stated once for the definitions. In code they are the constants of Board.
+-- The limits of document 01, section Numbers, stated once for the definitions. In code they are the constants
+-- of Board.
 use Prim.Native.Nat.{ℕ}
 
 abbrev pub maxUsers : ℕ

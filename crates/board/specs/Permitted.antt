@@ -1,5 +1,5 @@
--- When something to be done is permitted, and what it changes: document 01, section Permitted. Definitions only; that
--- they say document 01's sentences is proved in proofs/Sentences.antt.
+-- When something to be done is permitted, and what it changes: document 01, section Permitted. Definitions
+-- only; that they say document 01's sentences (specs/Sentences.antt) is proved in proofs/Sentences.antt.
 use mathlib.Core.Bool.{Bool, true, false, _&&_}
 use mathlib.Core.Option.{Option, none, some}
 use mathlib.Core.List.{List, [], _∷_, _++_, map}
@@ -67,8 +67,8 @@ askedFor permissions rules (Use action object) = byPermission (find (isFor actio
 abbrev pub each : Bool → ℕ → List ℕ → List (Holding × Bool)
 each held user roles = map (λ role. ((user, role), held)) roles
 
--- The needs: a holding, and whether it is to be held. The doer holds the permission's role; or the doer holds the
--- rule's actor role, and the target holds every wanted role and no barred role.
+-- The needs: a holding, and whether it is to be held. The doer holds the permission's role; or the doer holds
+-- the rule's actor role, and the target holds every wanted role and no barred role.
 abbrev pub needs : ℕ → Asked → Option (List (Holding × Bool))
 needs doer Nothing = none
 needs doer (Role role) = some (((doer, role), true) ∷ [])

@@ -1,16 +1,16 @@
--- What a set of roles holds once a role was put in or taken out: that role (or not), and of the others just those that
--- it held before. Bit by bit: of a union, a difference, and of a number with one bit. Assumes nothing.
-use mathlib.Core.Path.{_≡_, refl, ap, sym, _∙_}
-use mathlib.Core.Logic.{_⊎_, inl, inr, ⊎-elim}
+-- What a set of roles holds once a role was put in or taken out: that role (or not), and of the others just
+-- those that it held before; and no role at or above a limit comes in. Bit by bit: of a union, a difference,
+-- and of a number with one bit. Assumes nothing.
+use mathlib.Core.Path.{_≡_, refl, ap, _∙_}
 use mathlib.Core.Bool.{Bool, true, false, cond}
 use Prim.Native.Nat.{ℕ, zero, suc, _+_, _-_, _*_, _/_, _%_, _^_, _≤_, _<_, max}
 use native.Mathlib.Nat.{div-eq-of-lt, pow-suc}
 use native.Mathlib.Decide.{decLt}
 use native.Mathlib.Omega.{arith}
-use lib.Bits.{bitOr, bitXor, differ, or-shr, xor-shr, or-step, xor-step}
+use lib.Bits.{bitOr, bitXor, differ, or-shr, xor-shr, or-step, xor-step, or-lt, xor-lt}
 use lib.Dec.{eqb, ltb}
 use lib.Pow.{pow-lt, pow-mono, pow-add, shl-shr, shl-exact}
-use borrow.Author.Tests.{eq-eqb, ne-eqb, lt-ltb}
+use borrow.Author.Tests.{ne-eqb, lt-ltb}
 use Rattle.roles.specs.Roles.{inSet, withRole, withoutRole}
 
 -- bit i of a number
@@ -70,7 +70,8 @@ shifted r h = shl-exact {a = 1} 1 r 32 (omega arith) (omega arith)
 -- no set of 32 bits has a role from 32 on
 pub beyond : (set role : ℕ) → set < 2 ^ 32 → 32 ≤ role → inSet set role ≡ false
 beyond set role f k =
-    let z : set / 2 ^ role ≡ 0 = div-eq-of-lt (omega (arith, pow-mono k)) in ne-eqb (bit set role) 1 (λ e. omega (arith, z))
+    let z : set / 2 ^ role ≡ 0 = div-eq-of-lt (omega (arith, pow-mono k)) in
+    ne-eqb (bit set role) 1 (λ e. omega (arith, z))
 
 -- the bits of a set with a role and of one without it, where the role has a place
 with-bit-same : (set r : ℕ) → bit (bitOr set (1 * 2 ^ r)) r ≡ 1
@@ -83,7 +84,8 @@ without-bit-same : (set r : ℕ) → bit (bitXor (bitOr set (1 * 2 ^ r)) (1 * 2 
 without-bit-same set r =
     omega (arith, xor-bit (bitOr set (1 * 2 ^ r)) (1 * 2 ^ r) r, with-bit-same set r, one-same r)
 
-without-bit-other : (set r q : ℕ) → (q ≡ r → ⊥) → bit (bitXor (bitOr set (1 * 2 ^ r)) (1 * 2 ^ r)) q ≡ bit set q
+without-bit-other :
+    (set r q : ℕ) → (q ≡ r → ⊥) → bit (bitXor (bitOr set (1 * 2 ^ r)) (1 * 2 ^ r)) q ≡ bit set q
 without-bit-other set r q n =
     omega (arith, xor-bit (bitOr set (1 * 2 ^ r)) (1 * 2 ^ r) q, with-bit-other set r q n, one-other r q n)
 
@@ -107,4 +109,37 @@ without-same set role h = rw (lt-ltb role 32 h, without-bit-same set role)
 pub without-other : (set role q : ℕ) → (q ≡ role → ⊥) → inSet (withoutRole set role) q ≡ inSet set q
 unfolding withoutRole
 without-other set role q n =
-    either (ltb role 32) (bitXor (bitOr set (1 * 2 ^ role)) (1 * 2 ^ role)) set q (without-bit-other set role q n)
+    either
+    (ltb role 32)
+    (bitXor (bitOr set (1 * 2 ^ role)) (1 * 2 ^ role))
+    set
+    q
+    (without-bit-other set role q n)
+
+-- ---- no role at or above a limit comes in
+
+cond-below : (b : Bool) (x y limit : ℕ) → x < limit → y < limit → cond b x y < limit
+cond-below true x y limit h k = h
+cond-below false x y limit h k = k
+
+module _ (roles set role : ℕ) (fits : set < 2 ^ roles) (h : role < roles) where
+  one-below : 1 * 2 ^ role < 2 ^ roles
+  one-below = omega (arith, pow-lt h)
+
+  or-below : bitOr set (1 * 2 ^ role) < 2 ^ roles
+  or-below = or-lt roles set (1 * 2 ^ role) fits one-below
+
+  pub with-below : withRole set role < 2 ^ roles
+  unfolding withRole
+  with-below = cond-below (ltb role 32) (bitOr set (1 * 2 ^ role)) set (2 ^ roles) or-below fits
+
+  pub without-below : withoutRole set role < 2 ^ roles
+  unfolding withoutRole
+  without-below =
+      cond-below
+      (ltb role 32)
+      (bitXor (bitOr set (1 * 2 ^ role)) (1 * 2 ^ role))
+      set
+      (2 ^ roles)
+      (xor-lt roles (bitOr set (1 * 2 ^ role)) (1 * 2 ^ role) or-below one-below)
+      fits

@@ -1,5 +1,5 @@
--- Sets of roles as numbers: bit r of the number says whether role r is in the set. Definitions only; what a set holds
--- once a role was put in or taken out is proved in proofs/Laws.antt.
+-- Sets of roles as numbers: bit r of the number says whether role r is in the set. Definitions only; what a
+-- set holds once a role was put in or taken out is proved in proofs/Laws.antt.
 use mathlib.Core.Bool.{Bool, cond}
 use Prim.Native.Nat.{ℕ, _*_, _/_, _%_, _^_}
 use lib.Bits.{bitOr, bitXor}

@@ -1,4 +1,5 @@
-// Sets of roles. A set is a number of 32 bits: the role r is in it where bit r is 1. No set has a role from 32 on.
+// Sets of roles. A set is a number of 32 bits: the role r is in it where bit r is 1. No set has a role from
+// 32 on.
 ghost use mathlib.Core.Path.{_≡_};
 ghost use Rattle.roles.specs.Roles.{inSet, withRole, withoutRole};
 

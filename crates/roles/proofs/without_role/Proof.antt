@@ -1,5 +1,6 @@
 -- `roles::without_role` meets its contract: the shifted 1 is the number with the role's bit. Assumes nothing.
-use mathlib.Core.Path.{refl}
+use Prim.Native.Nat.{_<_}
+use native.Mathlib.Omega.{arith}
 use borrow.Author.Needs.{needs}
 use borrow.Author.Tests.{lt-ltb, le-ltb}
 use Rattle.roles.specs.Roles.{withoutRole}
@@ -12,11 +13,14 @@ shl-one c = search needs
 
 returns : tie.Need-returns
 unfolding withoutRole
-returns c = rw (lt-ltb _ _ (c .if1 .taken), shifted (c .before .args .role) (c .if1 .taken))
+returns c =
+    let role = c .before .args .role in
+    let fits : role < 32 = omega arith in
+    rw (lt-ltb role 32 fits, shifted role fits)
 
 returns-2 : tie.Need-returns-2
 unfolding withoutRole
-returns-2 c = rw (le-ltb _ _ (c .if1 .left))
+returns-2 c = rw (le-ltb (c .before .args .role) 32 (omega arith))
 
 pub without-role-spec : {M : Type 1} → statement M
 without-role-spec = tie.close (tie.spec shl-one returns returns-2)
