@@ -1,0 +1,280 @@
+// The tests of one record, which the file reader shares, and the test of a whole board value: one that fails
+// it gets answer 19.
+use board::Board;
+use board::Counts;
+use board::Duty;
+use board::Permission;
+use board::Rule;
+use board::Serial;
+use board::What;
+ghost use mathlib.Core.Path.{_≡_};
+ghost use Rattle.board.specs.Good as g;
+ghost use Rattle.records.specs.Places.{place, holdingTests, permissionTests, ruleTests, dutyTests};
+ghost use Rattle.records.specs.Places.{holdingsGood, permissionsGood, rulesGood, dutiesGood};
+
+// ---- counts
+
+// Whether every count and the next serial is in its range.
+pub fn counts_fit(counts: Counts, next: Serial) -> bool
+    ensures { λ r. ⌜ r ≡ g.countsFit counts (next .0) ⌝ }
+{
+    let users = counts.users as usize;
+    let roles = counts.roles as usize;
+    let permissions = counts.permissions as usize;
+    let rules = counts.rules as usize;
+    let duties = counts.duties as usize;
+    ((1 <= users) & (users <= Board::USERS))
+        & (((1 <= roles) & (roles <= Board::ROLES))
+            & ((permissions <= Board::PERMISSIONS)
+                & ((rules <= Board::RULES) & ((duties <= Board::DUTIES) & (1 <= next.0)))))
+}
+
+// ---- one record
+
+// Whether no bit at or above the role count is set.
+pub fn set_fits(set: u32, roles: u16) -> bool
+    ensures { λ r. ⌜ r ≡ g.setFits roles set ⌝ }
+{
+    if roles < 32 { set >> roles == 0 } else { true }
+}
+
+// Whether the action is one of a use, and the object is in range.
+pub fn use_fits(action: u16, object: u16) -> bool
+    ensures { λ r. ⌜ r ≡ g.useFits action object ⌝ }
+{
+    (2 <= action) & ((action < Board::ACTIONS) & (object < Board::OBJECTS))
+}
+
+// Whether the fields of a permission are in range.
+pub fn permission_fits(p: Permission, roles: u16) -> bool
+    ensures { λ r. ⌜ r ≡ g.permissionFits roles p ⌝ }
+{
+    (p.role < roles) & use_fits(p.action, p.object)
+}
+
+// Whether the fields of a rule are in range.
+pub fn rule_fits(r: Rule, roles: u16) -> bool
+    ensures { λ x. ⌜ x ≡ g.ruleFits roles r ⌝ }
+{
+    (r.kind < 2)
+        & ((r.actor < roles)
+            & ((r.role < roles) & (set_fits(r.wanted, roles) & set_fits(r.barred, roles))))
+}
+
+// Whether the fields of what is to be done are in range.
+pub fn what_fits(what: What, users: u16, roles: u16) -> bool
+    ensures { λ r. ⌜ r ≡ g.whatFits users roles what ⌝ }
+{
+    match what {
+        What::Grant { target, role } => (target < users) & (role < roles),
+        What::Revoke { target, role } => (target < users) & (role < roles),
+        What::Use { action, object } => use_fits(action, object),
+    }
+}
+
+// Whether the fields of a duty but its window are in range.
+pub fn duty_fits(d: Duty, users: u16, roles: u16, next: Serial) -> bool
+    ensures { λ r. ⌜ r ≡ g.dutyFits users roles (next .0) d ⌝ }
+{
+    let serial = d.serial;
+    let what = d.what;
+    (0 < serial.0) & ((serial.0 < next.0) & ((d.doer < users) & what_fits(what, users, roles)))
+}
+
+// Whether a window does not start after its end.
+pub fn window_fits(d: Duty) -> bool
+    ensures { λ r. ⌜ r ≡ g.windowFits d ⌝ }
+{
+    d.start <= d.end
+}
+
+// Whether one pair of numbers is below another, by the first and then by the second.
+fn pair_below(a: u16, b: u16, c: u16, d: u16) -> bool
+    ensures { λ r. ⌜ r ≡ g.pairBelow a b c d ⌝ }
+{
+    (a < c) | ((a == c) & (b < d))
+}
+
+// Whether a permission is below another, by action and then object.
+pub fn permission_below(p: Permission, q: Permission) -> bool
+    ensures { λ r. ⌜ r ≡ g.permissionBelow p q ⌝ }
+{
+    pair_below(p.action, p.object, q.action, q.object)
+}
+
+// Whether a rule is below another, by kind and then role.
+pub fn rule_below(r: Rule, s: Rule) -> bool
+    ensures { λ x. ⌜ x ≡ g.ruleBelow r s ⌝ }
+{
+    pair_below(r.kind, r.role, s.kind, s.role)
+}
+
+// Whether a duty is below another, by serial.
+pub fn duty_below(d: Duty, e: Duty) -> bool
+    ensures { λ r. ⌜ r ≡ g.dutyBelow d e ⌝ }
+{
+    let lower = d.serial;
+    let higher = e.serial;
+    lower.0 < higher.0
+}
+
+// ---- the filler
+
+fn is_no_permission(p: Permission) -> bool
+    ensures { λ r. ⌜ r ≡ g.isNoPermission p ⌝ }
+{
+    (p.role == 0) & ((p.action == 0) & (p.object == 0))
+}
+
+fn is_no_rule(r: Rule) -> bool
+    ensures { λ x. ⌜ x ≡ g.isNoRule r ⌝ }
+{
+    (r.kind == 0) & ((r.actor == 0) & ((r.role == 0) & ((r.wanted == 0) & (r.barred == 0))))
+}
+
+fn is_no_what(what: What) -> bool
+    ensures { λ r. ⌜ r ≡ g.isNoWhat what ⌝ }
+{
+    match what {
+        What::Grant { target, role } => (target == 0) & (role == 0),
+        What::Revoke { target: _, role: _ } => false,
+        What::Use {
+            action: _,
+            object: _,
+        } => false,
+    }
+}
+
+fn is_no_duty(d: Duty) -> bool
+    ensures { λ r. ⌜ r ≡ g.isNoDuty d ⌝ }
+{
+    let serial = d.serial;
+    let what = d.what;
+    (serial.0 == 0) & ((d.doer == 0) & (is_no_what(what) & ((d.start == 0) & (d.end == 0))))
+}
+
+// ---- one place of a part: a record that fits and is above the one before it, or filler beyond the count
+
+fn holding_place(set: u32, i: usize, count: usize, roles: u16) -> bool
+    ensures { λ r. ⌜ r ≡ place (holdingTests roles) count i 0 set ⌝ }
+{
+    if i < count {
+        set_fits(set, roles)
+    } else {
+        set == 0
+    }
+}
+
+fn permission_place(p: Permission, previous: Permission, i: usize, count: usize, roles: u16) -> bool
+    ensures { λ r. ⌜ r ≡ place (permissionTests roles) count i previous p ⌝ }
+{
+    if i < count {
+        permission_fits(p, roles) & ((i == 0) | permission_below(previous, p))
+    } else {
+        is_no_permission(p)
+    }
+}
+
+fn rule_place(r: Rule, previous: Rule, i: usize, count: usize, roles: u16) -> bool
+    ensures { λ x. ⌜ x ≡ place (ruleTests roles) count i previous r ⌝ }
+{
+    if i < count {
+        rule_fits(r, roles) & ((i == 0) | rule_below(previous, r))
+    } else {
+        is_no_rule(r)
+    }
+}
+
+fn duty_place(d: Duty, previous: Duty, i: usize, counts: Counts, next: Serial) -> bool
+    ensures { λ r. ⌜ r ≡ place (dutyTests counts (next .0)) (counts .duties) i previous d ⌝ }
+{
+    let count = counts.duties as usize;
+    if i < count {
+        (duty_fits(d, counts.users, counts.roles, next) & window_fits(d))
+            & ((i == 0) | duty_below(previous, d))
+    } else {
+        is_no_duty(d)
+    }
+}
+
+// ---- the parts
+
+fn holdings_good(b: Board) -> bool
+    ensures { λ r. ⌜ r ≡ holdingsGood b ⌝ }
+{
+    let count = b.counts.users as usize;
+    let roles = b.counts.roles;
+    let mut i: usize = 0;
+    while i < Board::USERS {
+        let set = b.holdings[i];
+        if !holding_place(set, i, count, roles) {
+            return false;
+        }
+        i += 1;
+    }
+    true
+}
+
+fn permissions_good(b: Board) -> bool
+    ensures { λ r. ⌜ r ≡ permissionsGood b ⌝ }
+{
+    let count = b.counts.permissions as usize;
+    let roles = b.counts.roles;
+    let mut previous = b.permissions[0];
+    let mut i: usize = 0;
+    while i < Board::PERMISSIONS {
+        let p = b.permissions[i];
+        if !permission_place(p, previous, i, count, roles) {
+            return false;
+        }
+        previous = p;
+        i += 1;
+    }
+    true
+}
+
+fn rules_good(b: Board) -> bool
+    ensures { λ r. ⌜ r ≡ rulesGood b ⌝ }
+{
+    let count = b.counts.rules as usize;
+    let roles = b.counts.roles;
+    let mut previous = b.rules[0];
+    let mut i: usize = 0;
+    while i < Board::RULES {
+        let r = b.rules[i];
+        if !rule_place(r, previous, i, count, roles) {
+            return false;
+        }
+        previous = r;
+        i += 1;
+    }
+    true
+}
+
+fn duties_good(b: Board) -> bool
+    ensures { λ r. ⌜ r ≡ dutiesGood b ⌝ }
+{
+    let counts = b.counts;
+    let next = b.next;
+    let mut previous = b.duties[0];
+    let mut i: usize = 0;
+    while i < Board::DUTIES {
+        let d = b.duties[i];
+        if !duty_place(d, previous, i, counts, next) {
+            return false;
+        }
+        previous = d;
+        i += 1;
+    }
+    true
+}
+
+// Whether a board value keeps every rule of the board file and holds the filler beyond each count.
+pub fn is_good(b: Board) -> bool
+    ensures { λ r. ⌜ r ≡ g.good b ⌝ }
+{
+    let counts = b.counts;
+    let next = b.next;
+    counts_fit(counts, next)
+        & (holdings_good(b) & (permissions_good(b) & (rules_good(b) & duties_good(b))))
+}
