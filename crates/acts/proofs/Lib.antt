@@ -1,0 +1,4 @@
+pub mod Search
+pub mod RoleByRole
+pub mod RuleNeeds
+pub mod Laws

@@ -1,0 +1,78 @@
+-- `acts::make_change` meets its contract: the target's set is put back with the role, or without it.
+-- Assumes nothing.
+use mathlib.Core.Path.{ap, _∙_}
+use Prim.Native.Nat.{ℕ}
+use lib.ListN.{set}
+use Rattle.roles.specs.Roles.{withRole, withoutRole}
+use borrow.Author.Needs.{needs}
+use Rattle.acts.proofs.make_change.Statement.{statement}
+use Rattle.acts.proofs.make_change.Tie as tie
+
+enum-known-what : tie.Need-enum-known-what
+enum-known-what c = search needs
+
+held-by-requires : tie.Need-held-by-requires
+held-by-requires c κs = search needs
+
+with-role-requires : tie.Need-with-role-requires
+with-role-requires c κs = search needs
+
+put-set-requires : tie.Need-put-set-requires
+put-set-requires c κs = search needs
+
+enum-known-what-2 : tie.Need-enum-known-what-2
+enum-known-what-2 c = search needs
+
+held-by-requires-2 : tie.Need-held-by-requires-2
+held-by-requires-2 c κs = search needs
+
+without-role-requires : tie.Need-without-role-requires
+without-role-requires c κs = search needs
+
+put-set-requires-2 : tie.Need-put-set-requires-2
+put-set-requires-2 c κs = search needs
+
+enum-told : tie.Need-enum-told
+enum-told c = search needs
+
+returns : tie.Need-returns
+returns c =
+    let m = c .before .before .before .before .before .before in
+    let target = m .what .given .0 .0 in
+    let role = m .what .given .0 .1 .0 in
+    let held = c .before .before .before .held-by .ensures in
+    let made = c .before .with-role .ensures ∙ ap (λ (x : ℕ). withRole x role) held in
+    rw
+    (m .what .given .1)
+    (c .put-set .ensures ∙ ap (λ (x : ℕ). set (m .before .before .args .holdings .now) target x) made)
+
+returns-2 : tie.Need-returns-2
+returns-2 c =
+    let m = c .before .before .before .before .before .before in
+    let target = m .what2 .given .0 .0 in
+    let role = m .what2 .given .0 .1 .0 in
+    let held = c .before .before .before .held-by2 .ensures in
+    let made = c .before .without-role .ensures ∙ ap (λ (x : ℕ). withoutRole x role) held in
+    rw
+    (m .what2 .given .1)
+    (c .put-set2 .ensures ∙ ap (λ (x : ℕ). set (m .before .before .args .holdings .now) target x) made)
+
+returns-3 : tie.Need-returns-3
+returns-3 c = search needs
+
+pub make-change-spec : {M : Type 1} → statement M
+make-change-spec =
+    tie.close
+    (tie.spec
+    enum-known-what
+    held-by-requires
+    with-role-requires
+    put-set-requires
+    enum-known-what-2
+    held-by-requires-2
+    without-role-requires
+    put-set-requires-2
+    enum-told
+    returns
+    returns-2
+    returns-3)
