@@ -1,5 +1,5 @@
--- What a call answers. Its checks are a list, in document 01's order, of a number and what it means; the answer is the
--- number of the first that applies, and 0 where none does. Definitions only.
+-- What a call answers. Its checks are a list, in document 01's order, of a number and what it means; the
+-- answer is the number of the first that applies, and 0 where none does. Definitions only.
 use mathlib.Core.Path.{_≡_}
 use mathlib.Core.Logic.{_⊎_}
 use mathlib.Core.List.{List, [], _∷_}

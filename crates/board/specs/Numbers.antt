@@ -1,5 +1,5 @@
--- The answer numbers of document 01 that are given so far, stated once for the definitions. In code they are the
--- constants of Answer.
+-- The answer numbers of document 01 that are given so far, stated once for the definitions. In code they are
+-- the constants of Answer.
 use Prim.Native.Nat.{ℕ}
 
 abbrev pub done : ℕ

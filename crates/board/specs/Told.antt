@@ -8,14 +8,16 @@ use Rattle.board.specs.Green.{FailingOrder}
 use Rattle.board.specs.Numbers as no
 use Rattle.board.specs.View.{View}
 
--- the serials of a failing order stand at the start of the list, the rest of which is untouched; n is their number
+-- the serials of a failing order stand at the start of the list, the rest of which is untouched; n is their
+-- number
 pub record OrderTold (v : View) (before after : List ℕ) (n : ℕ) : Type 0 where
   pub order : List ℕ
   pub failing : FailingOrder v order
   pub counted : n ≡ length order
   pub list : after ≡ order ++ drop (length order) before
 
--- With 8, a failing order of the board v; every other answer leaves the whole list untouched and carries length 0.
+-- With 8, a failing order of the board v; every other answer leaves the whole list untouched and carries
+-- length 0.
 pub record Told (v : View) (before after : List ℕ) (r : Answer) : Type 0 where
   pub red : r .number ≡ no.red → OrderTold v before after (r .length)
   pub otherwise : (r .number ≡ no.red → ⊥) → (after ≡ before) × (r .length ≡ 0)

@@ -1,5 +1,5 @@
-// The board: who holds which role, permissions, rules and duties, its limits, its filler and the smallest board; and
-// the test of a board value (a value that fails it gets answer 19).
+// The board: who holds which role, permissions, rules and duties, its limits, its filler and the smallest
+// board; and what a call answers.
 ghost use mathlib.Core.Path.{_≡_};
 ghost use Rattle.board.specs.Answers.{plainAnswer, redAnswer};
 ghost use Rattle.board.specs.Filler.{noPermission, noRule, noDuty, smallestBoard};
@@ -30,8 +30,8 @@ pub struct Permission {
     pub object: u16,
 }
 
-// Who holds the actor role may assign (kind 0) or revoke (kind 1) the role for a target that holds every wanted role
-// and no barred one.
+// Who holds the actor role may assign (kind 0) or revoke (kind 1) the role for a target that holds every
+// wanted role and no barred one.
 pub struct Rule {
     pub kind: u16,
     pub actor: u16,
@@ -40,8 +40,8 @@ pub struct Rule {
     pub barred: u32,
 }
 
-// What something to be done asks of the holdings: nothing can be asked where no permission or rule is there; the doer
-// is to hold a role; or doer and target are to meet a rule.
+// What something to be done asks of the holdings: nothing can be asked where no permission or rule is there;
+// the doer is to hold a role; or doer and target are to meet a rule.
 pub enum Asked {
     Nothing,
     Role(u16),
@@ -157,8 +157,8 @@ impl Board {
     }
 }
 
-// What a call answers: its number, the serial of a duty that was admitted (else 0), and the length of the failing order
-// at the start of the lent list (0 where there is none).
+// What a call answers: its number, the serial of a duty that was admitted (else 0), and the length of the
+// failing order at the start of the lent list (0 where there is none).
 pub struct Answer {
     pub number: u8,
     pub serial: Serial,
