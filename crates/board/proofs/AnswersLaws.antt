@@ -17,10 +17,21 @@ same-answer (c ∷ cs) m n (inr p) (inr q) = same-answer cs m n (p .1) (q .1)
 
 -- ---- one list after another
 
+-- no check of the list has this number
+abbrev pub Lacks : ℕ → List Check → Type 0
+Lacks k [] = Unit {0}
+Lacks k (c ∷ cs) = (c .number ≡ k → ⊥) × Lacks k cs
+
 -- every check of the list refuses: its number is not that of done
 abbrev pub Refusing : List Check → Type 0
-Refusing [] = Unit {0}
-Refusing (c ∷ cs) = (c .number ≡ no.done → ⊥) × Refusing cs
+Refusing cs = Lacks no.done cs
+
+-- a number that no check has is not answered
+pub never-answered :
+    (k : ℕ) (cs : List Check) (n : ℕ) → (k ≡ no.done → ⊥) → Lacks k cs → Answers cs n → n ≡ k → ⊥
+never-answered k [] n f l a e = f (sym e ∙ a)
+never-answered k (c ∷ cs) n f l (inl a) e = l .0 (sym (a .1) ∙ e)
+never-answered k (c ∷ cs) n f l (inr a) e = never-answered k cs n f (l .1) (a .1) e
 
 -- no check of the list applies
 abbrev pub NoneApplies : List Check → Type 0

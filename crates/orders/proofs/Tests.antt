@@ -33,6 +33,10 @@ pub not-true : (a : Bool) → not a ≡ true → a ≡ false
 not-true true e = clash e refl
 not-true false e = refl
 
+pub not-false : (a : Bool) → not a ≡ false → a ≡ true
+not-false true e = refl
+not-false false e = clash refl e
+
 pub not-of-false : (a : Bool) → a ≡ false → not a ≡ true
 not-of-false a e = rw e
 
