@@ -1,0 +1,4 @@
+pub mod Filled
+pub mod Faults
+pub mod Accepted
+pub mod Settled

@@ -1,0 +1,58 @@
+-- Where the parts of a board file stand: a header of 40 bytes, then holdings, permissions, rules and duties
+-- with no gaps. Definitions only.
+use mathlib.Core.Bool.{Bool, _&&_}
+use mathlib.Core.List.{List}
+use Prim.Native.Nat.{ℕ, _+_, _*_}
+use lib.Dec.{eqb}
+use lib.ListN.{length}
+use Rattle.board.specs.declared.Counts.{Counts}
+use Rattle.board.specs.Limits.{maxUsers, maxRoles, maxPermissions, maxRules, maxDuties}
+use Rattle.file.specs.Bytes.{two, four}
+
+-- the counts in the header
+abbrev pub countsOf : List ℕ → Counts
+countsOf s =
+    record { users = two s 2; roles = two s 4; permissions = two s 6; rules = two s 8; duties = two s 10 }
+
+abbrev pub clockOf : List ℕ → ℕ
+clockOf s = four s 12
+
+abbrev pub nextOf : List ℕ → ℕ
+nextOf s = four s 16
+
+-- where each part starts, and where the last one ends
+abbrev pub holdingsFrom : ℕ
+holdingsFrom = 40
+
+abbrev pub permissionsFrom : Counts → ℕ
+permissionsFrom n = holdingsFrom + n .users * 4
+
+abbrev pub rulesFrom : Counts → ℕ
+rulesFrom n = permissionsFrom n + n .permissions * 6
+
+abbrev pub dutiesFrom : Counts → ℕ
+dutiesFrom n = rulesFrom n + n .rules * 16
+
+abbrev pub totalOf : Counts → ℕ
+totalOf n = dutiesFrom n + n .duties * 20
+
+-- the longest file: every count at its limit
+abbrev pub longest : ℕ
+longest =
+    totalOf
+    (record {
+      users = maxUsers;
+      roles = maxRoles;
+      permissions = maxPermissions;
+      rules = maxRules;
+      duties = maxDuties;
+    })
+
+-- the header's offsets and total are as laid out, and the total is the slice's length
+abbrev pub laidOut : List ℕ → Bool
+laidOut s =
+    eqb (four s 20) holdingsFrom
+    && (eqb (four s 24) (permissionsFrom (countsOf s))
+    && (eqb (four s 28) (rulesFrom (countsOf s))
+    && (eqb (four s 32) (dutiesFrom (countsOf s))
+    && (eqb (four s 36) (totalOf (countsOf s)) && eqb (four s 36) (length s)))))

@@ -1,0 +1,5 @@
+pub mod Bytes
+pub mod Layout
+pub mod Records
+pub mod Reads
+pub mod Parts

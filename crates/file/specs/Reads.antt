@@ -1,0 +1,59 @@
+-- What reading a board file promises, for every byte string. Definitions only.
+use mathlib.Core.Path.{_≡_}
+use mathlib.Core.Bool.{false}
+use mathlib.Core.List.{List, [], _∷_, _++_, map}
+use Prim.Native.Nat.{ℕ, _-_, _<_}
+use lib.ListN.{length, replicate}
+use Rattle.board.specs.declared.Board.{Board}
+use Rattle.board.specs.Answers.{Check, check, Answers}
+use Rattle.board.specs.Filler.{noPermission, noRule, noDuty, smallestBoard}
+use Rattle.board.specs.Good.{countsFit}
+use Rattle.board.specs.Limits.{maxUsers, maxPermissions, maxRules, maxDuties}
+use Rattle.board.specs.Numbers as no
+use Rattle.board.specs.Permitted.{below}
+use Rattle.file.specs.declared.Reading.{Reading}
+use Rattle.file.specs.Bytes.{two, four}
+use Rattle.file.specs.Layout.{countsOf, clockOf, nextOf, longest, laidOut}
+use Rattle.file.specs.Records.{holdingAt, permissionAt, ruleAt, dutyAt, firstFault}
+
+-- the checks of the header
+abbrev pub headerChecks : List ℕ → List Check
+headerChecks s =
+    check no.short (length s < 40)
+    ∷ (check no.version (two s 0 ≡ 1 → ⊥)
+    ∷ (check no.count (countsFit (countsOf s) (nextOf s) ≡ false)
+    ∷ (check no.layout (laidOut s ≡ false)
+    ∷ (check no.long (longest < four s 36) ∷ []))))
+
+-- the checks of the records: the first faulty one in file order decides
+abbrev pub recordChecks : List ℕ → List Check
+recordChecks s =
+    check no.field (firstFault s ≡ no.field)
+    ∷ (check no.window (firstFault s ≡ no.window) ∷ (check no.notAbove (firstFault s ≡ no.notAbove) ∷ []))
+
+abbrev pub readChecks : List ℕ → List Check
+readChecks s = headerChecks s ++ recordChecks s
+
+-- n records, and filler in the rest of the room
+abbrev pub filled : {A : Type 0} → (ℕ → A) → A → ℕ → ℕ → List A
+filled at filler room n = map at (below n) ++ replicate (room - n) filler
+
+-- exactly the board that the bytes say, with filler beyond each count
+unfoldable pub boardOf : List ℕ → Board
+boardOf s =
+    record {
+      counts = countsOf s;
+      clock = clockOf s;
+      next = record { 0 = nextOf s };
+      holdings = filled (holdingAt s) 0 maxUsers (countsOf s .users);
+      permissions = filled (permissionAt s) noPermission maxPermissions (countsOf s .permissions);
+      rules = filled (ruleAt s) noRule maxRules (countsOf s .rules);
+      duties = filled (dutyAt s) noDuty maxDuties (countsOf s .duties);
+    }
+
+-- The answer is the number of the first check that applies; an accepted file gives the board that it says, a
+-- refused one the smallest board.
+pub record Reads (s : List ℕ) (r : Reading) : Type 0 where
+  pub number : Answers (readChecks s) (r .number)
+  pub accepted : r .number ≡ no.done → r .board ≡ boardOf s
+  pub refused : (r .number ≡ no.done → ⊥) → r .board ≡ smallestBoard
