@@ -1,0 +1,119 @@
+-- The answers of open: the list is too short; the file is refused; the board that it says is red; it is green.
+-- In the last two the board is the one that the bytes say, and it is good, so that check answers 8 or 0.
+-- Assumes nothing.
+use mathlib.Core.Path.{_≡_, refl}
+use mathlib.Core.Logic.{inl, inr}
+use mathlib.Core.Bool.{false}
+use mathlib.Core.List.{List, [], _∷_}
+use Prim.Native.Nat.{ℕ, _≤_, _<_}
+use native.Mathlib.Omega.{arith}
+use lib.ListN.{length}
+use Rattle.orders.proofs.Tests.{clash}
+use Rattle.board.specs.declared.Answer.{Answer}
+use Rattle.board.specs.declared.Board.{Board}
+use Rattle.board.specs.Answers.{Check, check, Answers, plainAnswer}
+use Rattle.board.specs.Filler.{smallestBoard}
+use Rattle.board.specs.Good.{good}
+use Rattle.board.specs.Green.{Green}
+use Rattle.board.specs.Limits.{maxDuties}
+use Rattle.board.specs.Numbers as no
+use Rattle.board.specs.Told.{Told}
+use Rattle.board.proofs.AnswersLaws.{Lacks, done-none, never-answered, refused-first, then-second, past-first}
+use Rattle.file.specs.Reads.{readChecks, boardOf}
+use Rattle.file.proofs.Accepted.{read-refuses, accepted-good}
+use Rattle.verdict.specs.Checked.{Checked}
+use Rattle.calls.specs.Opens.{said, openChecks, Opens, refusedOpen}
+
+-- the last check of open
+abbrev redCheck : List ℕ → List Check
+redCheck s = check no.red (Green (said s) → ⊥) ∷ []
+
+-- reading a file never answers 8
+no-red : (s : List ℕ) → Lacks no.red (readChecks s)
+no-red s = (
+  λ e. omega arith,
+  (
+    λ e. omega arith,
+    (
+      λ e. omega arith,
+      (λ e. omega arith, (λ e. omega arith, (λ e. omega arith, (λ e. omega arith, (λ e. omega arith, tt))))),
+    ),
+  ),
+)
+
+module _ (s before : List ℕ) where
+  -- an answer other than 8 leaves the list
+  untouched : (number : ℕ) → (number ≡ no.red → ⊥) → Told (said s) before before (plainAnswer number)
+  untouched number f = record { red = λ e. absurd (f e); otherwise = λ e. (refl, refl) }
+
+  refused-with :
+      (number : ℕ) → (number ≡ no.done → ⊥) → (number ≡ no.red → ⊥)
+      → Answers (openChecks s (length before)) number → Opens s before before (refusedOpen number)
+  refused-with number d f a =
+      record {
+        number = a;
+        accepted = λ e. absurd (d e);
+        refused = λ e. refl;
+        told = untouched number f;
+        serial = refl;
+      }
+
+  pub short : length before < maxDuties → Opens s before before (refusedOpen no.list)
+  short h = refused-with no.list (λ e. omega arith) (λ e. omega arith) (inl (h, refl))
+
+  module _ (room : maxDuties ≤ length before) where
+    pub not-read :
+        (number : ℕ) → Answers (readChecks s) number → (number ≡ no.done → ⊥)
+        → Opens s before before (refusedOpen number)
+    not-read number a d =
+        refused-with
+        number
+        d
+        (never-answered no.red (readChecks s) number (λ e. omega arith) (no-red s) a)
+        (inr (λ h. omega arith, refused-first (readChecks s) (redCheck s) number d a))
+
+    -- the file is read, and check answers r on the board that it says
+    module _
+        (accepted : Answers (readChecks s) no.done) (board : Board) (is : board ≡ boardOf s) (after : List ℕ)
+        (r : Answer) (checked : Checked board before after r)
+      where
+        it : Checked (boardOf s) before after r
+        it = rw is at checked
+
+        number : Answers (openChecks s (length before)) (r .number)
+        number =
+            inr (
+              λ h. omega arith,
+              then-second
+                  (readChecks s)
+                  (redCheck s)
+                  (r .number)
+                  (done-none (readChecks s) (read-refuses s) accepted)
+                  (past-first
+                  (check no.broken (good (boardOf s) ≡ false) ∷ check no.list (length before < maxDuties) ∷ [])
+                  (redCheck s)
+                  (r .number)
+                  (λ e. clash (accepted-good s accepted) e, (λ h. omega arith, tt))
+                  (it .number)),
+            )
+
+        pub opened-red :
+            (r .number ≡ no.done → ⊥) → Opens s before after (record { answer = r; board = smallestBoard })
+        opened-red f =
+            record {
+              number = number;
+              accepted = λ e. absurd (f e);
+              refused = λ e. refl;
+              told = it .told;
+              serial = it .serial;
+            }
+
+        pub opened-green : r .number ≡ no.done → Opens s before after (record { answer = r; board = board })
+        opened-green e =
+            record {
+              number = number;
+              accepted = λ d. is;
+              refused = λ f. absurd (f e);
+              told = it .told;
+              serial = it .serial;
+            }

@@ -1,0 +1,104 @@
+-- `calls::open` meets its contract: each answer is one of the four of proofs/Opening.antt.
+-- Assumes nothing.
+use mathlib.Core.Path.{_≡_}
+use Prim.Native.Nat.{_≤_}
+use lib.ListN.{length}
+use borrow.Author.Needs.{needs}
+use Rattle.board.specs.Answers.{Answers}
+use Rattle.board.specs.Limits.{maxDuties}
+use Rattle.board.specs.Numbers as no
+use Rattle.file.specs.Reads.{readChecks, boardOf}
+use Rattle.calls.proofs.Opening.{short, not-read, opened-red, opened-green}
+use Rattle.calls.proofs.open.Statement.{statement}
+use Rattle.calls.proofs.open.Tie as tie
+
+-- past the second test the list has room, the file is accepted, and the board is the one that it says
+room : (c : tie.Else2) → maxDuties ≤ length (c .before .before .before .before .before .before .args .list .now)
+room c = c .before .before .before .if1 .left
+
+accepted : (c : tie.Else2) → Answers (readChecks (c .before .before .before .before .before .before .args .s .now)) no.done
+accepted c = rw (c .if2 .left) at (c .before .before .read .ensures .number)
+
+is-said : (c : tie.Else2) → c .before .before .read .result .board ≡ boardOf (c .before .before .before .before .before .before .args .s .now)
+is-said c = c .before .before .read .ensures .accepted (c .if2 .left)
+
+refused-requires : tie.Need-refused-requires
+refused-requires c κs = search needs
+
+returns : tie.Need-returns
+returns c = rw (c .refused .ensures) (short _ _ (c .before .if1 .taken))
+
+read-requires : tie.Need-read-requires
+read-requires c κs = search needs
+
+refused-requires-2 : tie.Need-refused-requires-2
+refused-requires-2 c κs = search needs
+
+returns-2 : tie.Need-returns-2
+returns-2 c =
+    let reading = c .before .before .before in
+    rw
+    (c .refused2 .ensures)
+    (not-read _ _ (reading .before .if1 .left) _ (reading .read .ensures .number) (c .before .if2 .taken))
+
+check-requires : tie.Need-check-requires
+check-requires c κs = search needs
+
+smallest-requires : tie.Need-smallest-requires
+smallest-requires c κs = search needs
+
+same-length : tie.Need-same-length
+same-length c = search needs
+
+returns-3 : tie.Need-returns-3
+returns-3 c =
+    let judged = c .before .before .before .before .before in
+    let read = judged .before .before .before in
+    rw
+    (c .smallest .ensures)
+    (opened-red
+    _
+    _
+    (room read)
+    (accepted read)
+    _
+    (is-said read)
+    _
+    (judged .check .result)
+    (judged .check .ensures)
+    (c .before .if3 .taken))
+
+same-length-2 : tie.Need-same-length-2
+same-length-2 c = search needs
+
+returns-4 : tie.Need-returns-4
+returns-4 c =
+    let judged = c .before .before .before .before in
+    let read = judged .before .before .before in
+    opened-green
+    _
+    _
+    (room read)
+    (accepted read)
+    _
+    (is-said read)
+    _
+    (judged .check .result)
+    (judged .check .ensures)
+    (c .if3 .left)
+
+pub open-spec : {M : Type 1} → statement M
+open-spec =
+    tie.close
+    (tie.spec
+    refused-requires
+    returns
+    read-requires
+    refused-requires-2
+    returns-2
+    check-requires
+    smallest-requires
+    same-length
+    returns-3
+    same-length-2
+    returns-4)
