@@ -1,0 +1,4 @@
+pub mod PutLaws
+pub mod NumberLaws
+pub mod DecimalIs
+pub mod Examples

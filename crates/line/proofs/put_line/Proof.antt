@@ -1,0 +1,49 @@
+-- Word, number, numbers of the list and newline are put one after the other, and each has room: a word takes
+-- at most 7 bytes, and a number with its space at most 21. Assumes nothing.
+use mathlib.Core.List.{[], _∷_, append-nil}
+use native.Mathlib.Omega.{arith}
+use borrow.Author.Needs.{needs}
+use Rattle.line.specs.Line.{decimal}
+use Rattle.line.proofs.PutLaws.{put-then}
+use Rattle.line.proofs.NumberLaws.{numbers-length, first-numbers-length}
+use Rattle.line.proofs.put_line.Statement.{statement}
+use Rattle.line.proofs.put_line.Tie as tie
+
+put-requires : tie.Need-put-requires
+put-requires c κs = search needs
+
+put-number-requires : tie.Need-put-number-requires
+put-number-requires c κs = search needs
+
+put-numbers-requires : tie.Need-put-numbers-requires
+put-numbers-requires c κs =
+    let args = c .before .before .before .before .before .before .before .args in
+    (search needs, omega (arith, numbers-length (args .number ∷ [])))
+
+slice-aggregate-put : tie.Need-slice-aggregate-put
+slice-aggregate-put c = search needs
+
+put-requires-2 : tie.Need-put-requires-2
+put-requires-2 c κs =
+    let args = c .before .before .before .before .before .before .before .before .before .before .args in
+    omega (arith, numbers-length (args .number ∷ []), first-numbers-length (args .n) (args .list .now))
+
+returns : tie.Need-returns
+returns c =
+    let after-numbers = c .before .before .before in
+    let after-number = after-numbers .before .before in
+    let after-word = after-number .before .before in
+    let all = put-then (after-number .put-number .ensures) (after-numbers .put-numbers .ensures) in
+    rw (append-nil (decimal (after-word .before .before .before .before .args .number))) at
+    (put-then (after-word .put .ensures) (put-then all (c .put2 .ensures)))
+
+pub put-line-spec : {M : Type 1} → statement M
+put-line-spec =
+    tie.close
+    (tie.spec
+    put-requires
+    put-number-requires
+    put-numbers-requires
+    slice-aggregate-put
+    put-requires-2
+    returns)

@@ -1,0 +1,54 @@
+-- The line that is printed for an answer: document 01, section Small boards, last paragraph.
+-- Definitions only.
+use mathlib.Core.Path.{_≡_}
+use mathlib.Core.Bool.{cond}
+use mathlib.Core.List.{List, [], _∷_, _++_}
+use Prim.Native.Nat.{ℕ, zero, suc, _+_, _/_, _%_, _≤_, min}
+use lib.Dec.{eqb, ltb}
+use lib.ListN.{length, take, drop}
+use Rattle.board.specs.declared.Answer.{Answer}
+use Rattle.board.specs.Limits.{maxDuties}
+use Rattle.board.specs.Numbers as no·
+
+-- the decimal digits of a number, in ASCII; k is a bound on how many there are
+abbrev pub digits : ℕ → ℕ → List ℕ
+digits zero n = []
+digits (suc k) n = cond (ltb n 10) ((48 + n) ∷ []) (digits k (n / 10) ++ ((48 + n % 10) ∷ []))
+
+-- those of a number of 64 bits, which has at most 20
+unfoldable pub decimal : ℕ → List ℕ
+decimal n = digits 20 n
+
+-- each number with a space before it
+abbrev pub numbers : List ℕ → List ℕ
+numbers [] = []
+numbers (n ∷ l) = 32 ∷ (decimal n ++ numbers l)
+
+-- the words, in ASCII, and the newline
+abbrev pub yes : List ℕ
+yes = 121 ∷ 101 ∷ 115 ∷ []
+
+abbrev pub no : List ℕ
+no = 110 ∷ 111 ∷ []
+
+abbrev pub refused : List ℕ
+refused = 114 ∷ 101 ∷ 102 ∷ 117 ∷ 115 ∷ 101 ∷ 100 ∷ []
+
+abbrev pub newline : List ℕ
+newline = 10 ∷ []
+
+-- `yes` and the number of duties; `no`, the length of the order and its serials; or `refused` and the number
+unfoldable pub lineOf : Answer → ℕ → List ℕ → List ℕ
+lineOf r duties list =
+    cond (eqb (r .number) no·.done) (yes ++ (numbers (duties ∷ []) ++ newline))
+    (cond (eqb (r .number) no·.red)
+    (no ++ (numbers (r .length ∷ take (min (r .length) maxDuties) list) ++ newline))
+    (refused ++ (numbers (r .number ∷ []) ++ newline)))
+
+-- these bytes are put at the place, nothing else is changed, and `next` is the place after them, in the room;
+-- the room keeps its length
+pub record Put (bytes before : List ℕ) (at : ℕ) (after : List ℕ) (next : ℕ) : Type 0 where
+  pub list : after ≡ take at before ++ (bytes ++ drop (at + length bytes) before)
+  pub place : next ≡ at + length bytes
+  pub fits : next ≤ length before
+  pub kept : length after ≡ length before
