@@ -6,3 +6,4 @@ pub mod Sentences
 pub mod PoolLaws
 pub mod CasesHold
 pub mod AnswersLaws
+pub mod ToldLaws

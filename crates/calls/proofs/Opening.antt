@@ -1,5 +1,5 @@
--- The answers of open: the list is too short; the file is refused; the board that it says is red; it is green.
--- In the last two the board is the one that the bytes say, and it is good, so that check answers 8 or 0.
+-- The answers of open: the list is too short; the file is refused; the board that it says is red; it is
+-- green. In the last two the board is the one that the bytes say, and it is good, so that check answers 8 or 0.
 -- Assumes nothing.
 use mathlib.Core.Path.{_≡_, refl}
 use mathlib.Core.Logic.{inl, inr}
@@ -90,7 +90,9 @@ module _ (s before : List ℕ) where
                   (r .number)
                   (done-none (readChecks s) (read-refuses s) accepted)
                   (past-first
-                  (check no.broken (good (boardOf s) ≡ false) ∷ check no.list (length before < maxDuties) ∷ [])
+                  (check no.broken (good (boardOf s) ≡ false)
+                  ∷ check no.list (length before < maxDuties)
+                  ∷ [])
                   (redCheck s)
                   (r .number)
                   (λ e. clash (accepted-good s accepted) e, (λ h. omega arith, tt))
@@ -98,12 +100,13 @@ module _ (s before : List ℕ) where
             )
 
         pub opened-red :
-            (r .number ≡ no.done → ⊥) → Opens s before after (record { answer = r; board = smallestBoard })
-        opened-red f =
+            (r .number ≡ no.done → ⊥) → (kept : Board) → kept ≡ smallestBoard
+            → Opens s before after (record { answer = r; board = kept })
+        opened-red f kept e =
             record {
               number = number;
-              accepted = λ e. absurd (f e);
-              refused = λ e. refl;
+              accepted = λ d. absurd (f d);
+              refused = λ d. e;
               told = it .told;
               serial = it .serial;
             }

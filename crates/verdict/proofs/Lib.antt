@@ -7,3 +7,4 @@ pub mod Walks
 pub mod Cutting
 pub mod Judging
 pub mod Answered
+pub mod Settled

@@ -13,13 +13,19 @@ use Rattle.calls.proofs.open.Statement.{statement}
 use Rattle.calls.proofs.open.Tie as tie
 
 -- past the second test the list has room, the file is accepted, and the board is the one that it says
-room : (c : tie.Else2) → maxDuties ≤ length (c .before .before .before .before .before .before .args .list .now)
+room :
+    (c : tie.Else2) → let start = c .before .before .before .before .before .before in
+    maxDuties ≤ length (start .args .list .now)
 room c = c .before .before .before .if1 .left
 
-accepted : (c : tie.Else2) → Answers (readChecks (c .before .before .before .before .before .before .args .s .now)) no.done
+accepted :
+    (c : tie.Else2) → let start = c .before .before .before .before .before .before in
+    Answers (readChecks (start .args .s .now)) no.done
 accepted c = rw (c .if2 .left) at (c .before .before .read .ensures .number)
 
-is-said : (c : tie.Else2) → c .before .before .read .result .board ≡ boardOf (c .before .before .before .before .before .before .args .s .now)
+is-said :
+    (c : tie.Else2) → let start = c .before .before .before .before .before .before in
+    c .before .before .read .result .board ≡ boardOf (start .args .s .now)
 is-said c = c .before .before .read .ensures .accepted (c .if2 .left)
 
 refused-requires : tie.Need-refused-requires
@@ -54,9 +60,7 @@ returns-3 : tie.Need-returns-3
 returns-3 c =
     let judged = c .before .before .before .before .before in
     let read = judged .before .before .before in
-    rw
-    (c .smallest .ensures)
-    (opened-red
+    opened-red
     _
     _
     (room read)
@@ -66,7 +70,9 @@ returns-3 c =
     _
     (judged .check .result)
     (judged .check .ensures)
-    (c .before .if3 .taken))
+    (c .before .if3 .taken)
+    (c .smallest .result)
+    (c .smallest .ensures)
 
 same-length-2 : tie.Need-same-length-2
 same-length-2 c = search needs
