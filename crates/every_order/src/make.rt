@@ -1,0 +1,361 @@
+// A small random board as the bytes of its file, valid by all rules of document 01: 1 to 4 users and roles,
+// up to 4 permissions, 8 rules and 6 duties. The random numbers stand in rows: 0 and 1 for the board, 2 to 5
+// for the users, 6 to 9 for the permissions, 10 to 17 for the rules, 18 to 89 for twelve tries at each duty,
+// 90 to 96 for the windows. Duties are made in an order in which most are permitted: so about half are green.
+use crate::bytes::low;
+use crate::bytes::put_record;
+use crate::draws::draw;
+use crate::rules::Act;
+use crate::rules::Held;
+use crate::rules::after;
+use crate::rules::held_in_file;
+use crate::rules::matters;
+use crate::rules::permitted;
+use crate::walk::plus;
+
+// A byte as a wider number.
+fn wide(x: u8) -> u32 {
+    x as u32
+}
+
+// ---- how many there are of each
+
+// How many users, roles, permissions, rules and duties there are.
+struct Counts {
+    users: u8,
+    roles: u8,
+    permissions: u8,
+    rules: u8,
+    duties: u8,
+}
+
+// 1 to 4, and 2 or 3 most often.
+fn one_to_four(draws: &[u32], column: u8) -> u8 {
+    let c = column as u32;
+    let one = draw(draws, 0, c, 4);
+    let other = draw(draws, 0, c + 1, 4);
+    low(1 + (one as u32 + other as u32) / 2)
+}
+
+// 0 to 6, and most often many.
+fn up_to_six(draws: &[u32]) -> u8 {
+    let one = draw(draws, 0, 4, 7);
+    let other = draw(draws, 0, 5, 7);
+    if one < other { other } else { one }
+}
+
+// Whether the permission or the rule of a row is there: most are, but no rule for a role that is not.
+fn is_there(draws: &[u32], roles: u8, row: u8) -> bool {
+    (draw(draws, row as u32, 0, 16) != 0) & ((row < 10) | ((row % 4 + 2) % 4 < roles))
+}
+
+// A count, or one more where a test holds.
+fn counted(test: bool, count: u8) -> u8 {
+    if test { low(1 + count as u32) } else { count }
+}
+
+// How many permissions or rules are there, of the rows from one up to another.
+fn how_many(draws: &[u32], roles: u8, first: u8, end: u8) -> u8 {
+    let mut count: u8 = 0;
+    let mut row = first;
+    while row < end {
+        count = counted(is_there(draws, roles, row), count);
+        row += 1;
+    }
+    count
+}
+
+// The counts of a random board.
+fn counts_by(draws: &[u32]) -> Counts {
+    let roles = one_to_four(draws, 2);
+    Counts {
+        users: one_to_four(draws, 0),
+        roles,
+        permissions: how_many(draws, roles, 6, 10),
+        rules: how_many(draws, roles, 10, 18),
+        duties: up_to_six(draws),
+    }
+}
+
+// ---- where the parts stand
+
+// The offset of the permissions.
+fn permissions_at(n: Counts) -> u32 {
+    40 + 4 * (n.users as u32)
+}
+
+// The offset of the rules.
+fn rules_at(n: Counts) -> u32 {
+    40 + 4 * (n.users as u32) + 6 * (n.permissions as u32)
+}
+
+// The offset of so many duties on.
+fn duty_at(n: Counts, count: u8) -> u32 {
+    40
+        + 4 * (n.users as u32)
+        + 6 * (n.permissions as u32)
+        + 16 * (n.rules as u32)
+        + 20 * (count as u32)
+}
+
+// ---- header and holdings
+
+// The minute near which the windows lie: some cross from one byte of a number to the next.
+fn first_minute(draws: &[u32]) -> u32 {
+    match draw(draws, 1, 0, 4) {
+        0 => 0,
+        1 => 250,
+        2 => 65530,
+        _ => 4294967200,
+    }
+}
+
+// Put the header.
+fn put_header(s: &mut [u8], draws: &[u32], n: Counts) {
+    let later = draw(draws, 1, 1, 8);
+    let clock = plus(first_minute(draws), later as u32);
+    let header = [
+        1,
+        n.users as u32,
+        n.roles as u32,
+        n.permissions as u32,
+        n.rules as u32,
+        n.duties as u32,
+        clock % 65536,
+        clock / 65536,
+        1 + n.duties as u32,
+        0,
+        40,
+        0,
+        permissions_at(n),
+        0,
+        rules_at(n),
+        0,
+        duty_at(n, 0),
+        0,
+        duty_at(n, n.duties),
+        0,
+    ];
+    put_record(s, 0, 0, &header);
+}
+
+// How many sets there are of so many roles.
+fn sets(roles: u8) -> u8 {
+    match roles {
+        1 => 2,
+        2 => 4,
+        3 => 8,
+        _ => 16,
+    }
+}
+
+// The set of a user: few roles, but role 0 and more for user 0.
+fn set_for(draws: &[u32], user: u8, roles: u8) -> u32 {
+    let row = 2 + user as u32;
+    let one = draw(draws, row, 0, sets(roles));
+    let other = draw(draws, row, 1, sets(roles));
+    if user == 0 {
+        wide(one | 1)
+    } else {
+        wide(one & other)
+    }
+}
+
+// Put the holdings.
+fn put_holdings(s: &mut [u8], draws: &[u32], n: Counts) {
+    let mut user: u8 = 0;
+    while user < n.users {
+        let holding = [set_for(draws, user, n.roles), 0];
+        put_record(s, 40, 4 * (user as u32), &holding);
+        user += 1;
+    }
+}
+
+// ---- permissions and rules
+
+// An action that is a use.
+fn action_by(which: u8) -> u32 {
+    if which == 0 { 2 } else { 63 }
+}
+
+// An object.
+fn object_by(which: u8) -> u32 {
+    if which == 0 { 0 } else { 255 }
+}
+
+// Put the permission of a row.
+fn put_permission(s: &mut [u8], draws: &[u32], n: Counts, row: u8) {
+    let place = how_many(draws, n.roles, 6, row);
+    let role = draw(draws, row as u32, 1, n.roles);
+    let permission = [role as u32, action_by(row / 8), object_by(row % 2)];
+    put_record(s, permissions_at(n), 6 * (place as u32), &permission);
+}
+
+// A set of few roles, by three random numbers in a row.
+fn few_roles(draws: &[u32], row: u8, column: u8, roles: u8) -> u32 {
+    let r = row as u32;
+    let c = column as u32;
+    let n = sets(roles);
+    wide(draw(draws, r, c, n) & draw(draws, r, c + 1, n) & draw(draws, r, c + 2, n))
+}
+
+// Put the rule of a row.
+fn put_rule(s: &mut [u8], draws: &[u32], n: Counts, row: u8) {
+    let place = how_many(draws, n.roles, 10, row);
+    let kind: u32 = if row < 14 { 0 } else { 1 };
+    let actor = draw(draws, row as u32, 1, n.roles);
+    let role = (row % 4 + 2) % 4;
+    let wanted = few_roles(draws, row, 2, n.roles);
+    let barred = few_roles(draws, row, 5, n.roles);
+    let rule = [kind, actor as u32, role as u32, 0, wanted, 0, barred, 0];
+    put_record(s, rules_at(n), 16 * (place as u32), &rule);
+}
+
+// Put the permission or the rule of a row, if it is there.
+fn put_right(s: &mut [u8], draws: &[u32], n: Counts, row: u8) {
+    if !is_there(draws, n.roles, row) {
+        return;
+    }
+    if row < 10 {
+        put_permission(s, draws, n, row);
+    } else {
+        put_rule(s, draws, n, row);
+    }
+}
+
+// Put the permissions and the rules.
+fn put_rights(s: &mut [u8], draws: &[u32], n: Counts) {
+    let mut row: u8 = 6;
+    while row < 18 {
+        put_right(s, draws, n, row);
+        row += 1;
+    }
+}
+
+// ---- windows
+
+// The first and the last minute of a duty.
+struct Window {
+    start: u32,
+    end: u32,
+}
+
+// A window of up to three minutes for the i-th duty to come.
+fn window_from(draws: &[u32], i: u8, start: u32) -> Window {
+    let length = draw(draws, 90 + i as u32, 2, 3);
+    Window {
+        start,
+        end: plus(start, length as u32),
+    }
+}
+
+// The window after the i-th duty's: it begins past the end, at the end, or within.
+fn next_window(draws: &[u32], i: u8, w: Window) -> Window {
+    let row = 90 + i as u32;
+    let gaps = draw(draws, 0, 7, 4);
+    let which = draw(draws, row, 0, 8);
+    let more = draw(draws, row, 1, 2);
+    if (which as u32) < 1 + 2 * (gaps as u32) {
+        window_from(draws, i, plus(w.end, 1 + more as u32))
+    } else if (which as u32) < 3 + 2 * (gaps as u32) {
+        window_from(draws, i, w.end)
+    } else {
+        window_from(draws, i, plus(w.start, more as u32))
+    }
+}
+
+// ---- duties
+
+// A grant, a revoke or a use.
+fn act_by(draws: &[u32], row: u32, n: Counts) -> Act {
+    let kind = draw(draws, row, 0, 8);
+    let doer = wide(draw(draws, row, 1, n.users));
+    if kind < 6 {
+        Act {
+            doer,
+            action: (kind / 3) as u32,
+            first: wide(draw(draws, row, 2, n.users)),
+            second: wide(draw(draws, row, 3, n.roles)),
+        }
+    } else {
+        Act {
+            doer,
+            action: action_by(draw(draws, row, 2, 2)),
+            first: object_by(draw(draws, row, 3, 2)),
+            second: 0,
+        }
+    }
+}
+
+// How many tries each duty has: only one on some boards.
+fn tries_by(draws: &[u32]) -> u8 {
+    if draw(draws, 0, 6, 16) == 0 { 1 } else { 12 }
+}
+
+// What the i-th duty to come is to do: the first try that is permitted and matters, or simply the first.
+fn fitting_act(s: &[u8], draws: &[u32], n: Counts, i: u8, held: Held) -> Act {
+    let first = 18 + 12 * (i as u32);
+    let tries = tries_by(draws);
+    let mut k: u8 = 0;
+    while k < tries {
+        let act = act_by(draws, first + k as u32, n);
+        if permitted(s, held, act) & matters(held, act) {
+            return act;
+        }
+        k += 1;
+    }
+    act_by(draws, first, n)
+}
+
+// The place of the i-th duty to come: the places are turned, and may run backwards.
+fn place_for(draws: &[u32], i: u8, duties: u8) -> u8 {
+    if duties == 0 {
+        return 0;
+    }
+    let turn = draw(draws, 1, 2, duties);
+    if draw(draws, 1, 3, 2) == 0 {
+        low((turn as u32 + i as u32) % (duties as u32))
+    } else {
+        low((turn as u32 + 300 - i as u32) % (duties as u32))
+    }
+}
+
+// Put a duty.
+fn put_duty(s: &mut [u8], n: Counts, place: u8, act: Act, w: Window) {
+    let duty = [
+        1 + place as u32,
+        0,
+        act.doer,
+        act.action,
+        act.first,
+        act.second,
+        w.start % 65536,
+        w.start / 65536,
+        w.end % 65536,
+        w.end / 65536,
+    ];
+    put_record(s, duty_at(n, place), 0, &duty);
+}
+
+// Put the duties, in the order in which they are to come.
+fn put_duties(s: &mut [u8], draws: &[u32], n: Counts) {
+    let mut held = held_in_file(s);
+    let mut w = window_from(draws, 6, first_minute(draws));
+    let mut i: u8 = 0;
+    while i < n.duties {
+        let act = fitting_act(s, draws, n, i, held);
+        put_duty(s, n, place_for(draws, i, n.duties), act, w);
+        held = after(held, act);
+        w = next_window(draws, i, w);
+        i += 1;
+    }
+}
+
+// Put the file of a random board at the start of a buffer of zeros.
+pub(crate) fn make(s: &mut [u8], draws: &[u32]) {
+    let n = counts_by(draws);
+    put_header(s, draws, n);
+    put_holdings(s, draws, n);
+    put_rights(s, draws, n);
+    put_duties(s, draws, n);
+}

@@ -1,0 +1,224 @@
+// Document 01's "Permitted" and "Orders" once more, read from the bytes of a small board file: at most
+// 4 users, 4 permissions, 8 rules and 6 duties. A duty is named by its place in the file, from 0 on.
+use crate::bytes::four;
+use crate::bytes::two;
+
+// ---- sets of numbers below 32
+
+// The set of one number.
+fn only(number: u32) -> u32 {
+    if number < 32 { 1 << number } else { 0 }
+}
+
+// Whether a set has the number.
+fn has(set: u32, number: u32) -> bool {
+    set & only(number) != 0
+}
+
+// ---- holdings
+
+// The set of roles of each user.
+pub(crate) struct Held {
+    pub sets: [u32; 4],
+}
+
+// The set of a user in the file.
+fn set_in_file(s: &[u8], user: u32) -> u32 {
+    if user < two(s, 0, 2) {
+        four(s, 40, 4 * user)
+    } else {
+        0
+    }
+}
+
+// The holdings in the file.
+pub(crate) fn held_in_file(s: &[u8]) -> Held {
+    let a = set_in_file(s, 0);
+    let b = set_in_file(s, 1);
+    let c = set_in_file(s, 2);
+    let d = set_in_file(s, 3);
+    let sets = [a, b, c, d];
+    Held { sets }
+}
+
+// The set of a user.
+fn set_of(held: Held, user: u32) -> u32 {
+    let u = user as usize;
+    if u < 4 { held.sets[u] } else { 0 }
+}
+
+// The holdings with another set for a user.
+fn with_set(held: Held, user: u32, set: u32) -> Held {
+    let mut h = held;
+    let u = user as usize;
+    if u < 4 {
+        h.sets[u] = set;
+    }
+    h
+}
+
+// ---- what is to be done
+
+// The doer, the action, and target and role, or object and 0.
+pub(crate) struct Act {
+    pub doer: u32,
+    pub action: u32,
+    pub first: u32,
+    pub second: u32,
+}
+
+// Where a duty stands.
+fn duty_at(s: &[u8], duty: u8) -> u32 {
+    two(s, 0, 32) + 20 * (duty as u32)
+}
+
+// What a duty is to do.
+fn act_of(s: &[u8], duty: u8) -> Act {
+    let at = duty_at(s, duty);
+    Act {
+        doer: two(s, at, 4),
+        action: two(s, at, 6),
+        first: two(s, at, 8),
+        second: two(s, at, 10),
+    }
+}
+
+// ---- permitted
+
+// Whether the permission at a place is for the action and object, and a doer with this set holds its role.
+fn allows_use(s: &[u8], place: u8, doer: u32, action: u32, object: u32) -> bool {
+    let at = two(s, 0, 24) + 6 * (place as u32);
+    (two(s, at, 2) == action) & (two(s, at, 4) == object) & has(doer, two(s, at, 0))
+}
+
+// Whether some permission allows a doer with this set the use.
+fn may_use(s: &[u8], doer: u32, action: u32, object: u32) -> bool {
+    let count = two(s, 0, 6);
+    let mut place: u8 = 0;
+    while place < 4 {
+        if ((place as u32) < count) & allows_use(s, place, doer, action, object) {
+            return true;
+        }
+        place += 1;
+    }
+    false
+}
+
+// Whether the rule at a place is of the kind and for the role, and a doer with this set holds its actor role.
+fn is_rule_for(s: &[u8], at: u32, doer: u32, kind: u32, role: u32) -> bool {
+    (two(s, at, 0) == kind) & (two(s, at, 4) == role) & has(doer, two(s, at, 2))
+}
+
+// Whether moreover a target with that set holds all of its wanted roles and none of its barred ones.
+fn allows_change(s: &[u8], place: u8, doer: u32, kind: u32, target: u32, role: u32) -> bool {
+    let at = two(s, 0, 28) + 16 * (place as u32);
+    let wanted = four(s, at, 8);
+    let barred = four(s, at, 12);
+    is_rule_for(s, at, doer, kind, role) & (target & wanted == wanted) & (target & barred == 0)
+}
+
+// Whether some rule allows a doer with this set the grant (0) or revoke (1) on a target with that set.
+fn may_change(s: &[u8], doer: u32, kind: u32, target: u32, role: u32) -> bool {
+    let count = two(s, 0, 8);
+    let mut place: u8 = 0;
+    while place < 8 {
+        if ((place as u32) < count) & allows_change(s, place, doer, kind, target, role) {
+            return true;
+        }
+        place += 1;
+    }
+    false
+}
+
+// Whether an act is permitted.
+pub(crate) fn permitted(s: &[u8], held: Held, act: Act) -> bool {
+    let doer = set_of(held, act.doer);
+    if act.action < 2 {
+        may_change(s, doer, act.action, set_of(held, act.first), act.second)
+    } else {
+        may_use(s, doer, act.action, act.first)
+    }
+}
+
+// ---- the change
+
+// The holdings after an act.
+pub(crate) fn after(held: Held, act: Act) -> Held {
+    let set = set_of(held, act.first);
+    let role = only(act.second);
+    if act.action == 0 {
+        with_set(held, act.first, set | role)
+    } else if act.action == 1 {
+        with_set(held, act.first, (set | role) ^ role)
+    } else {
+        held
+    }
+}
+
+// Whether an act is a use, or changes a holding.
+pub(crate) fn matters(held: Held, act: Act) -> bool {
+    (1 < act.action) | (has(set_of(held, act.first), act.second) == (act.action == 1))
+}
+
+// ---- orders
+
+// A point in an order: the duties done before it, as a set, and the holdings then.
+pub(crate) struct Point {
+    pub done: u32,
+    pub held: Held,
+}
+
+// The point before the first duty.
+pub(crate) fn start(s: &[u8]) -> Point {
+    let held = held_in_file(s);
+    Point { done: 0, held }
+}
+
+// The point after one more duty.
+pub(crate) fn next(s: &[u8], point: Point, duty: u8) -> Point {
+    let before = point.held;
+    let held = after(before, act_of(s, duty));
+    let done = point.done | only(duty as u32);
+    Point { done, held }
+}
+
+// Whether there is such a duty, and it is not done.
+fn is_open(s: &[u8], done: u32, duty: u8) -> bool {
+    let place = duty as u32;
+    (place < two(s, 0, 10)) & !has(done, place)
+}
+
+// Whether a duty is wholly before another: its end is less than the other's start.
+fn wholly_before(s: &[u8], one: u8, other: u8) -> bool {
+    four(s, duty_at(s, one), 16) < four(s, duty_at(s, other), 12)
+}
+
+// Whether a duty may come next: it is open, and no open duty is wholly before it.
+pub(crate) fn may_come_next(s: &[u8], point: Point, duty: u8) -> bool {
+    let mut other: u8 = 0;
+    while other < 6 {
+        if is_open(s, point.done, other) & wholly_before(s, other, duty) {
+            return false;
+        }
+        other += 1;
+    }
+    is_open(s, point.done, duty)
+}
+
+// Whether a duty is permitted at this point.
+pub(crate) fn permitted_at(s: &[u8], point: Point, duty: u8) -> bool {
+    let held = point.held;
+    permitted(s, held, act_of(s, duty))
+}
+
+// The place of the duty with a serial, or 6 where none has it.
+pub(crate) fn place_of(s: &[u8], serial: u32) -> u8 {
+    let mut duty: u8 = 0;
+    while duty < 6 {
+        if four(s, duty_at(s, duty), 0) == serial {
+            return duty;
+        }
+        duty += 1;
+    }
+    6
+}
