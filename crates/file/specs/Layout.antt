@@ -20,21 +20,37 @@ clockOf s = four s 12
 abbrev pub nextOf : List ℕ → ℕ
 nextOf s = four s 16
 
+-- how many bytes the header and each kind of record take
+abbrev pub headerSize : ℕ
+headerSize = 40
+
+abbrev pub holdingSize : ℕ
+holdingSize = 4
+
+abbrev pub permissionSize : ℕ
+permissionSize = 6
+
+abbrev pub ruleSize : ℕ
+ruleSize = 16
+
+abbrev pub dutySize : ℕ
+dutySize = 20
+
 -- where each part starts, and where the last one ends
 abbrev pub holdingsFrom : ℕ
-holdingsFrom = 40
+holdingsFrom = headerSize
 
 abbrev pub permissionsFrom : Counts → ℕ
-permissionsFrom n = holdingsFrom + n .users * 4
+permissionsFrom n = holdingsFrom + n .users * holdingSize
 
 abbrev pub rulesFrom : Counts → ℕ
-rulesFrom n = permissionsFrom n + n .permissions * 6
+rulesFrom n = permissionsFrom n + n .permissions * permissionSize
 
 abbrev pub dutiesFrom : Counts → ℕ
-dutiesFrom n = rulesFrom n + n .rules * 16
+dutiesFrom n = rulesFrom n + n .rules * ruleSize
 
 abbrev pub totalOf : Counts → ℕ
-totalOf n = dutiesFrom n + n .duties * 20
+totalOf n = dutiesFrom n + n .duties * dutySize
 
 -- the longest file: every count at its limit
 abbrev pub longest : ℕ

@@ -13,13 +13,13 @@ use Rattle.board.specs.Numbers as no
 use Rattle.board.specs.Permitted.{below}
 use Rattle.file.specs.declared.Reading.{Reading}
 use Rattle.file.specs.Bytes.{two, four}
-use Rattle.file.specs.Layout.{countsOf, clockOf, nextOf, longest, laidOut}
+use Rattle.file.specs.Layout.{headerSize, countsOf, clockOf, nextOf, longest, laidOut}
 use Rattle.file.specs.Records.{holdingAt, permissionAt, ruleAt, dutyAt, firstFault}
 
 -- the checks of the header
 abbrev pub headerChecks : List ℕ → List Check
 headerChecks s =
-    check no.short (length s < 40)
+    check no.short (length s < headerSize)
     ∷ (check no.version (two s 0 ≡ 1 → ⊥)
     ∷ (check no.count (countsFit (countsOf s) (nextOf s) ≡ false)
     ∷ (check no.layout (laidOut s ≡ false)

@@ -15,20 +15,21 @@ use Rattle.board.specs.Numbers as no
 use Rattle.board.specs.Permitted.{below}
 use Rattle.file.specs.Bytes.{two, four}
 use Rattle.file.specs.Layout.{countsOf, nextOf, holdingsFrom, permissionsFrom, rulesFrom, dutiesFrom}
+use Rattle.file.specs.Layout.{holdingSize, permissionSize, ruleSize, dutySize}
 
 -- ---- what the bytes of one record say
 
 abbrev pub holdingAt : List ℕ → ℕ → ℕ
-holdingAt s i = four s (holdingsFrom + i * 4)
+holdingAt s i = four s (holdingsFrom + i * holdingSize)
 
 abbrev pub permissionAt : List ℕ → ℕ → Permission
 permissionAt s i =
-    let at = permissionsFrom (countsOf s) + i * 6 in
+    let at = permissionsFrom (countsOf s) + i * permissionSize in
     record { role = two s at; action = two s (at + 2); object = two s (at + 4) }
 
 -- where a rule's record starts
 abbrev pub ruleFrom : List ℕ → ℕ → ℕ
-ruleFrom s i = rulesFrom (countsOf s) + i * 16
+ruleFrom s i = rulesFrom (countsOf s) + i * ruleSize
 
 abbrev pub ruleAt : List ℕ → ℕ → Rule
 ruleAt s i =
@@ -51,7 +52,7 @@ whatOf action first second =
     cond (eqb action 0) (Grant first second) (cond (eqb action 1) (Revoke first second) (Use action first))
 
 abbrev pub dutyFrom : List ℕ → ℕ → ℕ
-dutyFrom s i = dutiesFrom (countsOf s) + i * 20
+dutyFrom s i = dutiesFrom (countsOf s) + i * dutySize
 
 abbrev pub dutyAt : List ℕ → ℕ → Duty
 dutyAt s i =

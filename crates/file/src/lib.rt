@@ -17,7 +17,8 @@ ghost use Rattle.board.specs.Good.{countsFit};
 ghost use Rattle.board.specs.Limits.{maxUsers, maxPermissions, maxRules, maxDuties};
 ghost use Rattle.file.specs.Bytes.{two, four};
 ghost use Rattle.file.specs.Layout.{countsOf, nextOf, laidOut, totalOf};
-ghost use Rattle.file.specs.Layout.{permissionsFrom, rulesFrom, dutiesFrom};
+ghost use Rattle.file.specs.Layout.{headerSize, holdingSize, permissionSize, ruleSize, dutySize};
+ghost use Rattle.file.specs.Layout.{holdingsFrom, permissionsFrom, rulesFrom, dutiesFrom};
 ghost use Rattle.file.specs.Records.{holdingAt, permissionAt, ruleAt, whatOf, dutyAt, secondFits};
 ghost use Rattle.file.specs.Records.{faultOf, holdingFault, permissionFault, ruleFault, dutyFault};
 ghost use Rattle.file.specs.Records.{firstFault};
@@ -30,12 +31,23 @@ pub struct Reading {
     pub board: Board,
 }
 
+// How many bytes the header and each kind of record take.
+const HEADER: usize = 40;
+
+const HOLDING: usize = 4;
+
+const PERMISSION: usize = 6;
+
+const RULE: usize = 16;
+
+const DUTY: usize = 20;
+
 // The longest file: every count at its limit.
-pub const LONGEST: usize = 40
-    + Board::USERS * 4
-    + Board::PERMISSIONS * 6
-    + Board::RULES * 16
-    + Board::DUTIES * 20;
+pub const LONGEST: usize = HEADER
+    + Board::USERS * HOLDING
+    + Board::PERMISSIONS * PERMISSION
+    + Board::RULES * RULE
+    + Board::DUTIES * DUTY;
 
 // ---- numbers
 
@@ -72,7 +84,7 @@ fn four_at(s: &[u8], at: usize) -> u32
 // ---- the header
 
 fn counts_of(s: &[u8]) -> Counts
-    requires { ⌜ 40 ≤ length (now s) ⌝ }
+    requires { ⌜ headerSize ≤ length (now s) ⌝ }
     ensures { λ r. ⌜ r ≡ countsOf (now (s .entry)) ⌝ }
 {
     let users = two_at(s, 2);
@@ -93,30 +105,30 @@ fn counts_of(s: &[u8]) -> Counts
 fn permissions_from(counts: Counts) -> usize
     ensures { λ r. ⌜ r ≡ permissionsFrom counts ⌝ }
 {
-    40 + counts.users as usize * 4
+    HEADER + counts.users as usize * HOLDING
 }
 
 fn rules_from(counts: Counts) -> usize
     ensures { λ r. ⌜ r ≡ rulesFrom counts ⌝ }
 {
-    permissions_from(counts) + counts.permissions as usize * 6
+    permissions_from(counts) + counts.permissions as usize * PERMISSION
 }
 
 fn duties_from(counts: Counts) -> usize
     ensures { λ r. ⌜ r ≡ dutiesFrom counts ⌝ }
 {
-    rules_from(counts) + counts.rules as usize * 16
+    rules_from(counts) + counts.rules as usize * RULE
 }
 
 fn total_of(counts: Counts) -> usize
     ensures { λ r. ⌜ r ≡ totalOf counts ⌝ }
 {
-    duties_from(counts) + counts.duties as usize * 20
+    duties_from(counts) + counts.duties as usize * DUTY
 }
 
 // Whether the counts and the next serial are in their ranges.
 fn counts_right(s: &[u8]) -> bool
-    requires { ⌜ 40 ≤ length (now s) ⌝ }
+    requires { ⌜ headerSize ≤ length (now s) ⌝ }
     ensures { λ r. ⌜ r ≡ countsFit (countsOf (now (s .entry))) (nextOf (now (s .entry))) ⌝ }
 {
     let counts = counts_of(s);
@@ -126,12 +138,12 @@ fn counts_right(s: &[u8]) -> bool
 
 // Whether the offsets and the total are as laid out, and the total is the slice's length.
 fn laid_out(s: &[u8]) -> bool
-    requires { ⌜ 40 ≤ length (now s) ⌝ }
+    requires { ⌜ headerSize ≤ length (now s) ⌝ }
     ensures { λ r. ⌜ r ≡ laidOut (now (s .entry)) ⌝ }
 {
     let counts = counts_of(s);
     let total = four_at(s, 36) as usize;
-    (four_at(s, 20) == 40)
+    (four_at(s, 20) as usize == HEADER)
         & ((four_at(s, 24) as usize == permissions_from(counts))
             & ((four_at(s, 28) as usize == rules_from(counts))
                 & ((four_at(s, 32) as usize == duties_from(counts))
@@ -142,7 +154,7 @@ fn laid_out(s: &[u8]) -> bool
 fn header_answer(s: &[u8]) -> u8
     ensures { λ r. ⌜ Answers (headerChecks (now (s .entry))) r ⌝ }
 {
-    if s.len() < 40 {
+    if s.len() < HEADER {
         return Answer::SHORT;
     }
     if two_at(s, 0) != 1 {
@@ -163,17 +175,18 @@ fn header_answer(s: &[u8]) -> u8
 // ---- what the bytes of one record say
 
 fn holding_at(s: &[u8], i: usize) -> u32
-    requires { ⌜ 40 + i * 4 + 4 ≤ length (now s) ⌝ }
+    requires { ⌜ holdingsFrom + i * holdingSize + holdingSize ≤ length (now s) ⌝ }
     ensures { λ r. ⌜ r ≡ holdingAt (now (s .entry)) i ⌝ }
 {
-    four_at(s, 40 + i * 4)
+    four_at(s, HEADER + i * HOLDING)
 }
 
 fn permission_at(s: &[u8], counts: Counts, i: usize) -> Permission
-    requires { ⌜ (counts ≡ countsOf (now s)) × (permissionsFrom counts + i * 6 + 6 ≤ length (now s)) ⌝ }
+    requires { ⌜ (counts ≡ countsOf (now s))
+        × (permissionsFrom counts + i * permissionSize + permissionSize ≤ length (now s)) ⌝ }
     ensures { λ r. ⌜ r ≡ permissionAt (now (s .entry)) i ⌝ }
 {
-    let at = permissions_from(counts) + i * 6;
+    let at = permissions_from(counts) + i * PERMISSION;
     let role = two_at(s, at);
     let action = two_at(s, at + 2);
     let object = two_at(s, at + 4);
@@ -185,10 +198,11 @@ fn permission_at(s: &[u8], counts: Counts, i: usize) -> Permission
 }
 
 fn rule_at(s: &[u8], counts: Counts, i: usize) -> Rule
-    requires { ⌜ (counts ≡ countsOf (now s)) × (rulesFrom counts + i * 16 + 16 ≤ length (now s)) ⌝ }
+    requires { ⌜ (counts ≡ countsOf (now s))
+        × (rulesFrom counts + i * ruleSize + ruleSize ≤ length (now s)) ⌝ }
     ensures { λ r. ⌜ r ≡ ruleAt (now (s .entry)) i ⌝ }
 {
-    let at = rules_from(counts) + i * 16;
+    let at = rules_from(counts) + i * RULE;
     let kind = two_at(s, at);
     let actor = two_at(s, at + 2);
     let role = two_at(s, at + 4);
@@ -226,10 +240,11 @@ fn what_of(action: u16, first: u16, second: u16) -> What
 }
 
 fn duty_at(s: &[u8], counts: Counts, i: usize) -> Duty
-    requires { ⌜ (counts ≡ countsOf (now s)) × (dutiesFrom counts + i * 20 + 20 ≤ length (now s)) ⌝ }
+    requires { ⌜ (counts ≡ countsOf (now s))
+        × (dutiesFrom counts + i * dutySize + dutySize ≤ length (now s)) ⌝ }
     ensures { λ r. ⌜ r ≡ dutyAt (now (s .entry)) i ⌝ }
 {
-    let at = duties_from(counts) + i * 20;
+    let at = duties_from(counts) + i * DUTY;
     let serial = Serial(four_at(s, at));
     let doer = two_at(s, at + 4);
     let what = what_of(two_at(s, at + 6), two_at(s, at + 8), two_at(s, at + 10));
@@ -246,10 +261,11 @@ fn duty_at(s: &[u8], counts: Counts, i: usize) -> Duty
 
 // Whether the second number of a use is 0.
 fn second_fits(s: &[u8], counts: Counts, i: usize) -> bool
-    requires { ⌜ (counts ≡ countsOf (now s)) × (dutiesFrom counts + i * 20 + 20 ≤ length (now s)) ⌝ }
+    requires { ⌜ (counts ≡ countsOf (now s))
+        × (dutiesFrom counts + i * dutySize + dutySize ≤ length (now s)) ⌝ }
     ensures { λ r. ⌜ r ≡ secondFits (now (s .entry)) i ⌝ }
 {
-    let at = duties_from(counts) + i * 20;
+    let at = duties_from(counts) + i * DUTY;
     let action = two_at(s, at + 6);
     ((action == 0) | (action == 1)) | (two_at(s, at + 10) == 0)
 }
@@ -273,7 +289,8 @@ fn fault_of(fits: bool, window: bool, above: bool) -> u8
 }
 
 fn holding_fault(s: &[u8], counts: Counts, i: usize) -> u8
-    requires { ⌜ (counts ≡ countsOf (now s)) × (40 + i * 4 + 4 ≤ length (now s)) ⌝ }
+    requires { ⌜ (counts ≡ countsOf (now s))
+        × (holdingsFrom + i * holdingSize + holdingSize ≤ length (now s)) ⌝ }
     ensures { λ r. ⌜ r ≡ holdingFault (now (s .entry)) i ⌝ }
 {
     fault_of(
@@ -284,7 +301,8 @@ fn holding_fault(s: &[u8], counts: Counts, i: usize) -> u8
 }
 
 fn permission_fault(s: &[u8], counts: Counts, i: usize) -> u8
-    requires { ⌜ (counts ≡ countsOf (now s)) × (permissionsFrom counts + i * 6 + 6 ≤ length (now s)) ⌝ }
+    requires { ⌜ (counts ≡ countsOf (now s))
+        × (permissionsFrom counts + i * permissionSize + permissionSize ≤ length (now s)) ⌝ }
     ensures { λ r. ⌜ r ≡ permissionFault (now (s .entry)) i ⌝ }
 {
     let p = permission_at(s, counts, i);
@@ -297,11 +315,12 @@ fn permission_fault(s: &[u8], counts: Counts, i: usize) -> u8
 }
 
 fn rule_fault(s: &[u8], counts: Counts, i: usize) -> u8
-    requires { ⌜ (counts ≡ countsOf (now s)) × (rulesFrom counts + i * 16 + 16 ≤ length (now s)) ⌝ }
+    requires { ⌜ (counts ≡ countsOf (now s))
+        × (rulesFrom counts + i * ruleSize + ruleSize ≤ length (now s)) ⌝ }
     ensures { λ r. ⌜ r ≡ ruleFault (now (s .entry)) i ⌝ }
 {
     let r = rule_at(s, counts, i);
-    let spare = two_at(s, rules_from(counts) + i * 16 + 6);
+    let spare = two_at(s, rules_from(counts) + i * RULE + 6);
     let fits = records::rule_fits(r, counts.roles) & (spare == 0);
     if i == 0 {
         return fault_of(fits, true, true);
@@ -311,7 +330,8 @@ fn rule_fault(s: &[u8], counts: Counts, i: usize) -> u8
 }
 
 fn duty_fault(s: &[u8], counts: Counts, i: usize) -> u8
-    requires { ⌜ (counts ≡ countsOf (now s)) × (dutiesFrom counts + i * 20 + 20 ≤ length (now s)) ⌝ }
+    requires { ⌜ (counts ≡ countsOf (now s))
+        × (dutiesFrom counts + i * dutySize + dutySize ≤ length (now s)) ⌝ }
     ensures { λ r. ⌜ r ≡ dutyFault (now (s .entry)) i ⌝ }
 {
     let d = duty_at(s, counts, i);
@@ -386,7 +406,7 @@ fn first_fault(s: &[u8], counts: Counts) -> u8
 // ---- the board that the bytes say
 
 fn holdings_of(s: &[u8], n: usize) -> [u32; Board::USERS]
-    requires { ⌜ (n ≤ maxUsers) × (40 + n * 4 ≤ length (now s)) ⌝ }
+    requires { ⌜ (n ≤ maxUsers) × (holdingsFrom + n * holdingSize ≤ length (now s)) ⌝ }
     ensures { λ r. ⌜ r ≡ filled (holdingAt (now (s .entry))) 0 maxUsers n ⌝ }
 {
     let mut out = [0u32; Board::USERS];

@@ -24,14 +24,14 @@ ghost use Rattle.verdict.specs.Tests.{undoes, opposes, heals, harms, fir
 ghost use Rattle.verdict.specs.Walking.{inLine, doOne, doAll, Room, InRange, lineCut, Written};
 
 // A place of the pool, or none.
-pub enum Place {
+enum Place {
     At(usize),
     Nowhere,
 }
 
 // What makes a board red: the place of the duty that gets stuck, and of the one that spoils it (the same
 // place, where the duty cannot be met at all).
-pub enum Trouble {
+enum Trouble {
     Nothing,
     Found { spoiler: usize, stuck: usize },
 }
@@ -39,7 +39,7 @@ pub enum Trouble {
 // ---- (a): what the duties wholly before d can give a user, and take
 
 // The most and the least that a user can hold before a duty.
-pub struct Reach {
+struct Reach {
     pub most: u32,
     pub least: u32,
 }
@@ -290,7 +290,7 @@ fn trouble_of(b: Board, pool: [Duty; Board::DUTIES], n: usize) -> Trouble
 
 // A walk through duties: who holds what by now, how many serials are written, and whether a duty was not
 // permitted.
-pub struct Walk {
+struct Walk {
     pub holdings: [u32; Board::USERS],
     pub length: usize,
     pub stuck: bool,

@@ -15,11 +15,14 @@ cast-total c = search needs
 four-at-requires-2 : tie.Need-four-at-requires-2
 four-at-requires-2 c κs = search needs
 
+cast-result : tie.Need-cast-result
+cast-result c = search needs
+
 four-at-requires-3 : tie.Need-four-at-requires-3
 four-at-requires-3 c κs = search needs
 
-cast-result : tie.Need-cast-result
-cast-result c = search needs
+cast-result-2 : tie.Need-cast-result-2
+cast-result-2 c = search needs
 
 permissions-from-requires : tie.Need-permissions-from-requires
 permissions-from-requires c κs = search needs
@@ -27,8 +30,8 @@ permissions-from-requires c κs = search needs
 four-at-requires-4 : tie.Need-four-at-requires-4
 four-at-requires-4 c κs = search needs
 
-cast-result-2 : tie.Need-cast-result-2
-cast-result-2 c = search needs
+cast-result-3 : tie.Need-cast-result-3
+cast-result-3 c = search needs
 
 rules-from-requires : tie.Need-rules-from-requires
 rules-from-requires c κs = search needs
@@ -36,8 +39,8 @@ rules-from-requires c κs = search needs
 four-at-requires-5 : tie.Need-four-at-requires-5
 four-at-requires-5 c κs = search needs
 
-cast-result-3 : tie.Need-cast-result-3
-cast-result-3 c = search needs
+cast-result-4 : tie.Need-cast-result-4
+cast-result-4 c = search needs
 
 duties-from-requires : tie.Need-duties-from-requires
 duties-from-requires c κs = search needs
@@ -68,14 +71,15 @@ laid-out-spec =
     four-at-requires
     cast-total
     four-at-requires-2
-    four-at-requires-3
     cast-result
+    four-at-requires-3
+    cast-result-2
     permissions-from-requires
     four-at-requires-4
-    cast-result-2
+    cast-result-3
     rules-from-requires
     four-at-requires-5
-    cast-result-3
+    cast-result-4
     duties-from-requires
     total-of-requires
     returns)
