@@ -1,5 +1,6 @@
 -- The answers of open: the list is too short; the file is refused; the board that it says is red; it is
--- green. In the last two the board is the one that the bytes say, and it is good, so that check answers 8 or 0.
+-- green. In the last two the board is the one that the bytes say, and it is good, so that check answers 8 or
+-- 0.
 -- Assumes nothing.
 use mathlib.Core.Path.{_≡_, refl}
 use mathlib.Core.Logic.{inl, inr}

@@ -1,5 +1,5 @@
--- The answer of check. A board value that breaks a rule gets 19, a short list 9; else the board is judged, and
--- a length of 0 is green, since a failing order has at least the duty that fails.
+-- The answer of check. A board value that breaks a rule gets 19, a short list 9; else the board is judged,
+-- and a length of 0 is green, since a failing order has at least the duty that fails.
 -- Assumes nothing.
 use mathlib.Core.Path.{_≡_, refl, sym, ap, _∙_}
 use mathlib.Core.Logic.{_⊎_, inl, inr, ⊎-elim}
