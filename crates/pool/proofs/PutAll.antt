@@ -1,7 +1,7 @@
--- The loop of `by_start`: one turn puts one duty more in order of start, and it stops at the count or, where
--- the count is above the room, at the last place.
+-- The outer loop of `by_start`: one turn puts one duty more in order of start, and it stops at the count or,
+-- where the count is above the room, at the last place.
 -- Assumes nothing.
-use mathlib.Core.Path.{_≡_, refl, sym, _∙_, ap}
+use mathlib.Core.Path.{_≡_, refl}
 use mathlib.Core.Logic.{_⊎_, inl, inr, ⊎-elim}
 use mathlib.Core.Bool.{true, false, _&&_}
 use mathlib.Core.List.{List, [], _∷_, _++_}
@@ -10,12 +10,13 @@ use native.Mathlib.Numerals.{add-one}
 use native.Mathlib.Omega.{arith}
 use lib.Dec.{ltb}
 use lib.ListN.{length, take, drop, getD, drop-of-length-le}
-use lib.Seq.{take-all, take-suc, drop-at, drop-drop}
+use lib.Seq.{length-front, take-all, take-suc, drop-at}
 use borrow.Author.Tests.{ltb-true, ltb-false}
 use Rattle.orders.proofs.Tests.{by-test, and-true}
 use Rattle.board.specs.declared.Duty.{Duty}
 use Rattle.pool.specs.ByStart.{putIn, putAll, byStart}
-use Rattle.pool.proofs.Laws.{by-start-fills, by-start-first}
+use Rattle.pool.proofs.Laws.{by-start-length, by-start-fills, by-start-first}
+use Rattle.pool.proofs.PutIn.{same-at, same-beyond}
 
 -- ---- the loop's test
 
@@ -41,17 +42,17 @@ module _ (duties : List Duty) where
   abbrev pub upTo : ℕ → List Duty
   upTo m = byStart (take m duties) ++ drop m duties
 
+  pub up-to-long : (m : ℕ) → length (upTo m) ≡ length duties
+  up-to-long m = length-front duties (byStart (take m duties)) m (by-start-length (take m duties))
+
   pub start : duties ≡ upTo 0
   unfolding putAll
   start = refl
 
   module _ (m : ℕ) (z : Duty) (h : m < length duties) where
-    rest : drop (m + 1) (upTo m) ≡ drop (m + 1) duties
-    rest =
-        let fills = by-start-fills m duties (omega arith) in
-        sym (drop-drop 1 m (upTo m))
-        ∙ ap (drop 1) (drop-at (byStart (take m duties)) (drop m duties) m fills)
-        ∙ drop-drop 1 m duties
+    -- from place m on nothing has changed
+    rest : drop m (upTo m) ≡ drop m duties
+    rest = drop-at (byStart (take m duties)) (drop m duties) m (by-start-fills m duties (omega arith))
 
     one-more : byStart (take (m + 1) duties) ≡ putIn (getD duties m z) (byStart (take m duties))
     one-more =
@@ -61,8 +62,15 @@ module _ (duties : List Duty) where
 
     pub turn :
         {out : List Duty} → out ≡ upTo m
-        → putIn (getD duties m z) (take m out) ++ drop (m + 1) out ≡ upTo (m + 1)
-    turn e = rw (e, by-start-first m duties (omega arith), rest, one-more)
+        → putIn (getD out m z) (take m out) ++ drop (m + 1) out ≡ upTo (m + 1)
+    turn e =
+        rw (
+          e,
+          by-start-first m duties (omega arith),
+          same-beyond (upTo m) duties m rest,
+          same-at (upTo m) duties m rest z,
+          one-more,
+        )
 
   -- a count above the room means every duty
   full : (m n : ℕ) → m ≤ n → length duties ≤ m → upTo m ≡ upTo n
