@@ -5,7 +5,7 @@ use mathlib.Core.Bool.{Bool, true, false, _&&_, _||_}
 use mathlib.Core.List.{List, [], _∷_}
 use Prim.Native.Nat.{ℕ, _^_}
 use lib.Dec.{eqb, ltb, leb}
-use lib.ListN.{take, drop}
+use lib.ListN.{drop}
 use Rattle.orders.specs.Lists.{all}
 use Rattle.board.specs.declared.Board.{Board}
 use Rattle.board.specs.declared.Counts.{Counts}

@@ -6,7 +6,6 @@ use Prim.Native.Nat.{ℕ}
 use lib.Dec.{eqb}
 use borrow.Author.Tests.{eqb-true, eqb-false}
 use Rattle.orders.proofs.Tests.{by-test}
-use Rattle.board.specs.declared.Board.{Board}
 use Rattle.board.specs.Numbers as no
 use Rattle.board.proofs.AnswersLaws.{same-answer}
 use Rattle.file.specs.declared.Reading.{Reading}

@@ -2,11 +2,8 @@
 -- is d itself, d stands in the line twice; it is not permitted the first time, so the rest is cut off.
 -- Assumes nothing.
 use mathlib.Core.Path.{_≡_, ap, _∙_}
-use mathlib.Core.Logic.{_≢_}
 use mathlib.Core.Bool.{Bool, false}
 use mathlib.Core.List.{List, [], _∷_, _++_}
-use Prim.Native.Nat.{_≤_}
-use lib.ListN.{length}
 use Rattle.orders.specs.Lists.{Mem, keep}
 use Rattle.orders.specs.Orders.{World, Order, Pool, Failing, run}
 use Rattle.orders.specs.Beginnings.{EndsStuck}
@@ -15,8 +12,7 @@ use Rattle.orders.specs.Criterion.{StaysWrong, MadeWrong}
 use Rattle.orders.specs.Lines.{early, between, line, cutOff, StuckBy, unruled, stays, made}
 use Rattle.orders.proofs.Cuts.{stuck-at, cut-stuck}
 use Rattle.orders.proofs.Failing.{ends→failing}
-use Rattle.orders.proofs.Lines.{line-first, line-last, until-x, line-beginning}
-use Rattle.orders.proofs.Lengths.{begin-length, failing-length}
+use Rattle.orders.proofs.Lines.{line-first, line-last}
 use Rattle.orders.proofs.Criterion as criterion
 use Rattle.orders.proofs.Decide.{staysWrong-is, spoils-is}
 
@@ -79,21 +75,3 @@ module _
     line-fails x (made h p need m e) =
         let (w, q) = spoils-is D o d h p x m e in
         rw q at (spoiled h p need w)
-
-    pub line-cut-length :
-        (x : Duty) → StuckBy D s o d x → length (cutOff (world D) s (line (world D) o x d)) ≤ length pool
-    line-cut-length x c = failing-length (world D) pool P s _ (line-fails x c)
-
--- ---- how long the line is
-
-module _
-    (W : World) (pool : List (W .Duty)) (P : Pool W pool) (o : List (W .Duty)) (ord : Order W pool o)
-    (x d : W .Duty) (open-x : Mem x pool) (open-d : Mem d pool)
-  where
-    pub until-x-length : length (keep (early W x d) o ++ (x ∷ [])) ≤ length pool
-    until-x-length = begin-length W pool P _ (until-x W pool P o ord x d open-x open-d)
-
-    pub line-length :
-        W .serial x ≢ W .serial d → W .whollyBefore d x ≡ false → length (line W o x d) ≤ length pool
-    line-length other late =
-        begin-length W pool P _ (line-beginning W pool P o ord x d open-x open-d other late)

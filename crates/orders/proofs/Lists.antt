@@ -78,9 +78,6 @@ module _ {A : Type 0} where
       (λ t. let r = all-false p l (rw t at e) in (r .0, there (r .1), r .2))
       (λ f. (x, here refl, f))
 
-  pub not-all : (p : A → Bool) {l : List A} {x : A} → Mem x l → p x ≡ false → all p l ≡ false
-  not-all p {l} m f = is-false (all p l) (λ e. clash (all-mem p e m) f)
-
   -- ---- the members that pass the test
 
   pub keep-mem : (p : A → Bool) (l : List A) {y : A} → Mem y (keep p l) → Mem y l × (p y ≡ true)

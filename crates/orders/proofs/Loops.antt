@@ -1,17 +1,17 @@
 -- What a loop over the first places of an array says: `take i l` are the places done, `getD l i d` the one at
--- hand. One place more adds one test to `any` and `all`, and at most one member to `keep`.
+-- hand. One place more adds one test to `any`.
 -- Assumes nothing.
 use mathlib.Core.Path.{_≡_, refl, sym, _∙_, ap}
-use mathlib.Core.Bool.{Bool, true, false, _&&_, _||_, cond}
-use mathlib.Core.List.{List, [], _∷_, _++_}
+use mathlib.Core.Bool.{Bool, true, false, _||_}
+use mathlib.Core.List.{List, [], _∷_}
 use Prim.Native.Nat.{ℕ, zero, suc, _+_, _<_}
 use native.Mathlib.Nat.{le-of-suc-le-suc, not-suc-le-zero}
 use native.Mathlib.Numerals.{add-one}
 use native.Mathlib.Omega.{arith}
 use lib.ListN.{length, getD, take}
-use Rattle.orders.specs.Lists.{Mem, here, there, any, all, keep}
-use Rattle.orders.proofs.Tests.{by-test, or-neither, and-both, and-yes}
-use Rattle.orders.proofs.Lists.{any-mem, not-all}
+use Rattle.orders.specs.Lists.{Mem, here, there, any}
+use Rattle.orders.proofs.Tests.{or-neither}
+use Rattle.orders.proofs.Lists.{any-mem}
 
 or-assoc : (a b c : Bool) → a || (b || c) ≡ (a || b) || c
 or-assoc true b c = refl
@@ -20,10 +20,6 @@ or-assoc false b c = refl
 or-nothing : (b : Bool) → b || false ≡ b
 or-nothing true = refl
 or-nothing false = refl
-
-and-assoc : (a b c : Bool) → a && (b && c) ≡ (a && b) && c
-and-assoc true b c = refl
-and-assoc false b c = refl
 
 module _ {A : Type 0} where
   -- a place among the first n holds one of the first n
@@ -72,44 +68,3 @@ module _ {A : Type 0} where
       (p : A → Bool) (l : List A) (n i : ℕ) (d : A) → i < n → i < length l → p (getD l i d) ≡ true
       → any p (take n l) ≡ true
   some-at p l n i d h k e = any-mem p (take-mem l n i d h k) e
-
-  -- ---- every place passes the test
-
-  pub all-next :
-      (p : A → Bool) (l : List A) (i : ℕ) (d : A) → i < length l
-      → all p (take (i + 1) l) ≡ all p (take i l) && p (getD l i d)
-  all-next p l i d h = rw add-one (go l i h)
-    where
-      go :
-          (l : List A) (i : ℕ) → i < length l → all p (take (suc i) l) ≡ all p (take i l) && p (getD l i d)
-      go [] i h = absurd (not-suc-le-zero h)
-      go (x ∷ l) zero h = and-yes (p x)
-      go (x ∷ l) (suc i) h =
-          ap (λ (b : Bool). p x && b) (go l i (le-of-suc-le-suc h))
-          ∙ and-assoc (p x) (all p (take i l)) (p (getD l i d))
-
-  pub every-next :
-      (p : A → Bool) (l : List A) (i : ℕ) (d : A) → i < length l → all p (take i l) ≡ true
-      → p (getD l i d) ≡ true → all p (take (i + 1) l) ≡ true
-  every-next p l i d h e f = all-next p l i d h ∙ and-both (all p (take i l)) (p (getD l i d)) e f
-
-  pub all-at :
-      (p : A → Bool) (l : List A) (n i : ℕ) (d : A) → i < n → i < length l → p (getD l i d) ≡ false
-      → all p (take n l) ≡ false
-  all-at p l n i d h k e = not-all p (take-mem l n i d h k) e
-
-  -- ---- the places that pass the test
-
-  pub keep-next :
-      (p : A → Bool) (l : List A) (i : ℕ) (d : A) → i < length l
-      → keep p (take (i + 1) l) ≡ keep p (take i l) ++ cond (p (getD l i d)) (getD l i d ∷ []) []
-  keep-next p l i d h = rw add-one (go l i h)
-    where
-      go :
-          (l : List A) (i : ℕ) → i < length l
-          → keep p (take (suc i) l) ≡ keep p (take i l) ++ cond (p (getD l i d)) (getD l i d ∷ []) []
-      go [] i h = absurd (not-suc-le-zero h)
-      go (x ∷ l) zero h = refl
-      go (x ∷ l) (suc i) h =
-          let rest = go l i (le-of-suc-le-suc h) in
-          by-test (p x) (λ e. rw e (ap (λ (m : List A). x ∷ m) rest)) (λ e. rw e rest)

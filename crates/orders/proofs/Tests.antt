@@ -4,11 +4,7 @@ use mathlib.Core.Path.{_≡_, refl, sym, _∙_}
 use mathlib.Core.Logic.{_⊎_, inl, inr}
 use mathlib.Core.Bool.{Bool, true, false, not, _&&_, _||_, Bool·beq, true≢false}
 
-pub yes-or-no : (b : Bool) → (b ≡ true) ⊎ (b ≡ false)
-yes-or-no true = inl refl
-yes-or-no false = inr refl
-
--- the same, to prove something from either outcome
+-- something proved from either outcome of a test
 pub by-test : {A : Type 0} (b : Bool) → (b ≡ true → A) → (b ≡ false → A) → A
 by-test true f g = f refl
 by-test false f g = g refl

@@ -2,24 +2,22 @@
 -- and a length of 0 is green, since a failing order has at least the duty that fails.
 -- Assumes nothing.
 use mathlib.Core.Path.{_≡_, refl, sym, ap, _∙_}
-use mathlib.Core.Logic.{_⊎_, inl, inr, ⊎-elim}
+use mathlib.Core.Logic.{_⊎_, inl, inr}
 use mathlib.Core.Bool.{true, false}
-use mathlib.Core.List.{List, [], _∷_, _++_, map}
+use mathlib.Core.List.{List, [], _∷_}
 use Prim.Native.Nat.{ℕ, _+_, _<_, _≤_}
 use native.Mathlib.Omega.{arith}
 use lib.ListN.{length, length-map, length-append}
 use Rattle.orders.proofs.Failing.{failing-not-green}
 use Rattle.orders.proofs.Tests.{clash}
-use Rattle.board.specs.declared.Answer.{Answer}
 use Rattle.board.specs.declared.Board.{Board}
-use Rattle.board.specs.declared.Duty.{Duty}
 use Rattle.board.specs.Answers.{Answers, plainAnswer, redAnswer}
 use Rattle.board.specs.Good.{good}
 use Rattle.board.specs.Green.{Green, FailingOrder, worldOf}
 use Rattle.board.specs.Limits.{maxDuties}
 use Rattle.board.specs.Numbers as no
 use Rattle.board.specs.Permitted.{heldIn}
-use Rattle.board.specs.Told.{OrderTold, Told}
+use Rattle.board.specs.Told.{Told}
 use Rattle.board.specs.View.{View, view}
 use Rattle.verdict.specs.Checked.{Judged, checkChecks, Checked}
 

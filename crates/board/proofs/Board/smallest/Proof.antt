@@ -1,6 +1,5 @@
 -- `Board::smallest` meets its contract: the three fillers are what their constructors ensure.
 -- Assumes nothing.
-use mathlib.Core.Path.{_≡_, refl}
 use borrow.Author.Needs.{needs}
 use Rattle.board.proofs.Board.smallest.Statement.{statement}
 use Rattle.board.proofs.Board.smallest.Tie as tie
