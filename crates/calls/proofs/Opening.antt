@@ -12,14 +12,14 @@ use lib.ListN.{length}
 use Rattle.orders.proofs.Tests.{clash}
 use Rattle.board.specs.declared.Answer.{Answer}
 use Rattle.board.specs.declared.Board.{Board}
-use Rattle.board.specs.Answers.{Check, check, Answers, plainAnswer}
+use Rattle.board.specs.Answers.{Check, check, Answers}
 use Rattle.board.specs.Filler.{smallestBoard}
 use Rattle.board.specs.Good.{good}
 use Rattle.board.specs.Green.{Green}
 use Rattle.board.specs.Limits.{maxDuties}
 use Rattle.board.specs.Numbers as no
-use Rattle.board.specs.Told.{Told}
 use Rattle.board.proofs.AnswersLaws.{Lacks, done-none, never-answered, refused-first, then-second, past-first}
+use Rattle.board.proofs.ToldLaws.{untouched}
 use Rattle.file.specs.Reads.{readChecks, boardOf}
 use Rattle.file.proofs.Accepted.{read-refuses, accepted-good}
 use Rattle.verdict.specs.Checked.{Checked}
@@ -43,10 +43,6 @@ no-red s = (
 )
 
 module _ (s before : List ℕ) where
-  -- an answer other than 8 leaves the list
-  untouched : (number : ℕ) → (number ≡ no.red → ⊥) → Told (said s) before before (plainAnswer number)
-  untouched number f = record { red = λ e. absurd (f e); otherwise = λ e. (refl, refl) }
-
   refused-with :
       (number : ℕ) → (number ≡ no.done → ⊥) → (number ≡ no.red → ⊥)
       → Answers (openChecks s (length before)) number → Opens s before before (refusedOpen number)
@@ -55,7 +51,7 @@ module _ (s before : List ℕ) where
         number = a;
         accepted = λ e. absurd (d e);
         refused = λ e. refl;
-        told = untouched number f;
+        told = untouched (said s) before number f;
         serial = refl;
       }
 

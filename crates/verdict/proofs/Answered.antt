@@ -17,7 +17,7 @@ use Rattle.board.specs.Green.{Green, FailingOrder, worldOf}
 use Rattle.board.specs.Limits.{maxDuties}
 use Rattle.board.specs.Numbers as no
 use Rattle.board.specs.Permitted.{heldIn}
-use Rattle.board.specs.Told.{Told}
+use Rattle.board.proofs.ToldLaws.{untouched}
 use Rattle.board.specs.View.{View, view}
 use Rattle.verdict.specs.Checked.{Judged, checkChecks, Checked}
 
@@ -40,19 +40,20 @@ not-green v order f g =
 -- ---- the four answers
 
 module _ (b : Board) (before : List ℕ) where
-  -- an answer other than 8 leaves the list
-  untouched : (number : ℕ) → (number ≡ no.red → ⊥) → Told (view b) before before (plainAnswer number)
-  untouched number f = record { red = λ e. absurd (f e); otherwise = λ e. (refl, refl) }
-
   pub broken : good b ≡ false → Checked b before before (plainAnswer no.broken)
-  broken e = record { number = inl (e, refl); told = untouched no.broken (λ e. omega arith); serial = refl }
+  broken e =
+      record {
+        number = inl (e, refl);
+        told = untouched (view b) before no.broken (λ e. omega arith);
+        serial = refl;
+      }
 
   module _ (whole : good b ≡ true) where
     pub short : length before < maxDuties → Checked b before before (plainAnswer no.list)
     short h =
         record {
           number = inr (λ e. clash whole e, inl (h, refl));
-          told = untouched no.list (λ e. omega arith);
+          told = untouched (view b) before no.list (λ e. omega arith);
           serial = refl;
         }
 
@@ -68,7 +69,7 @@ module _ (b : Board) (before : List ℕ) where
           rw same
           (record {
             number = passed no.done (inr (λ f. f green, refl));
-            told = untouched no.done (λ e. omega arith);
+            told = untouched (view b) before no.done (λ e. omega arith);
             serial = refl;
           })
       judged-green after n (inr told) e =

@@ -5,8 +5,9 @@ use mathlib.Core.Logic.{⊎-elim}
 use Prim.Native.Nat.{_≤_, _<_, _-_}
 use native.Mathlib.Omega.{arith}
 use borrow.Author.Needs.{needs}
-use lib.ListN.{length, take}
+use lib.ListN.{length, take, getD}
 use Rattle.board.specs.Filler.{noDuty}
+use Rattle.board.specs.Permitted.{whollyBefore}
 use Rattle.verdict.specs.Tests as tests
 use Rattle.verdict.proofs.MostAndLeast.{most-through, least-through, place-more}
 use Rattle.verdict.proofs.reach_of.Statement.{statement}
@@ -54,7 +55,8 @@ loop-again c =
     place-more (most-through (a .d) (a .user)) (a .set) (a .t1) k noDuty inside (so-far .1) in
     let least-more =
     place-more (least-through (a .d) (a .user)) (a .set) (a .t1) k noDuty inside (so-far .2) in
-    let test = sym (c .before .wholly-before .ensures) in
+    let test : whollyBefore (getD (a .t1) k noDuty) (a .d) ≡ c .before .wholly-before .result =
+    sym (c .before .wholly-before .ensures) in
     ⊎-elim
     (λ w.
     let e = test ∙ w .0 .taken in
