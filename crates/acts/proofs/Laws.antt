@@ -1,6 +1,5 @@
 -- Laws of one act, for the crates above: it changes just the holding that the theory of orders says; the
 -- table stays as long as it was and every set within the roles; what stands beyond the users says nothing.
--- Assumes nothing.
 use mathlib.Core.Path.{_≡_, refl, sym, ap, fun-ext}
 use mathlib.Core.Bool.{Bool, true, false, _&&_, cond}
 use mathlib.Core.List.{List, [], _∷_}

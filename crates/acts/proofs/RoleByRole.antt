@@ -1,5 +1,4 @@
 -- The test of wanted and barred roles, set against set, is a test of every role below the limit.
--- Assumes nothing.
 use mathlib.Core.Path.{_≡_, refl, ap}
 use mathlib.Core.Bool.{Bool, true, false, not, _&&_, _||_}
 use mathlib.Core.Logic.{⊎-elim}

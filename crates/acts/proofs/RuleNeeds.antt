@@ -1,5 +1,5 @@
 -- Holdings meet the need of a role where the doer holds it; and the needs of a rule where the doer holds the
--- actor role and the target's set has every wanted role and no barred one. Assumes nothing.
+-- actor role and the target's set has every wanted role and no barred one.
 use mathlib.Core.Path.{_≡_, refl, ap, ap₂, _∙_}
 use mathlib.Core.Bool.{Bool, true, false, not, _&&_, Bool·beq}
 use mathlib.Core.List.{List, [], _∷_, _++_}

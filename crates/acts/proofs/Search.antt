@@ -1,6 +1,5 @@
 -- A loop that looks for the first member, among the first n of a list, that passes a test. It goes up to k,
 -- the lesser of n and the list's length. It keeps this: what is left at place i finds what the whole finds.
--- Assumes nothing.
 use mathlib.Core.Path.{_≡_, _∙_}
 use mathlib.Core.Bool.{Bool, true, false}
 use mathlib.Core.Option.{none, some}

@@ -1,4 +1,4 @@
--- The test of wanted and barred roles, set against set. Definitions only.
+-- The test of wanted and barred roles, set against set.
 use mathlib.Core.Bool.{Bool, _&&_, not}
 use Prim.Native.Nat.{ℕ}
 use Rattle.orders.specs.Lists.{all}

@@ -45,11 +45,11 @@ pub fn asked_by_use(b: Board, action: u16, object: u16) -> Asked
         }
         i += 1;
     }
-    Asked::Nothing
+    Asked::Unruled
 }
 
 // Whether a rule is of the kind and for the role.
-fn governs_it(r: Rule, kind: u16, role: u16) -> bool
+fn governs(r: Rule, kind: u16, role: u16) -> bool
     ensures { λ x. ⌜ x ≡ governs kind role r ⌝ }
 {
     (r.kind == kind) & (r.role == role)
@@ -63,12 +63,12 @@ pub fn asked_by_rule(b: Board, kind: u16, target: u16, role: u16) -> Asked
     let mut i: usize = 0;
     while i < n {
         let r = b.rules[i];
-        if governs_it(r, kind, role) {
+        if governs(r, kind, role) {
             return Asked::Meets { target, rule: r };
         }
         i += 1;
     }
-    Asked::Nothing
+    Asked::Unruled
 }
 
 // What the board's permissions and rules ask for this to be done.
@@ -120,7 +120,7 @@ pub fn is_met(holdings: &[u32; Board::USERS], doer: u16, asked: Asked) -> bool
     ensures { λ r. ⌜ r ≡ met (heldIn (now (holdings .entry))) (needs doer asked) ⌝ }
 {
     match asked {
-        Asked::Nothing => false,
+        Asked::Unruled => false,
         Asked::Role(role) => holds(holdings, doer, role),
         Asked::Meets { target, rule } => {
             holds(holdings, doer, rule.actor)

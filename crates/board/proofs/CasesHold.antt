@@ -1,6 +1,6 @@
 -- The marked cases of document 01: every row of the table is a board that keeps the rules of the file, and
 -- its verdict is true. The idea: a test of one row, which computes; a law that a row which passes it is true;
--- and the test of the whole table at once. Assumes nothing.
+-- and the test of the whole table at once.
 use mathlib.Core.Path.{_≡_, refl}
 use mathlib.Core.Bool.{Bool, true, not, _&&_}
 use Rattle.orders.specs.Lists.{Mem, all}

@@ -1,6 +1,6 @@
 -- What a good board value says, part by part, and that these facts make it good: counts in range, each record
 -- in range and above all earlier ones (each is above the one before it, and "below" is transitive), filler
--- beyond each count. Assumes nothing.
+-- beyond each count.
 use mathlib.Core.Path.{_≡_, refl, _∙_}
 use mathlib.Core.Logic.{_⊎_, inl, inr, ⊎-elim}
 use mathlib.Core.Bool.{Bool, true, _&&_}
@@ -21,7 +21,7 @@ use Rattle.board.specs.declared.Rule.{Rule}
 use Rattle.board.specs.declared.What.{What}
 use Rattle.board.specs.declared.What.the-variants.{Grant, Revoke, Use}
 use Rattle.board.specs.Filler.{noPermission, noRule, noDuty, Sized}
-use Rattle.board.specs.Limits.{maxUsers, maxRoles, maxPermissions, maxRules, maxDuties}
+use Rattle.board.specs.Limits.{maxUsers, maxRoles, maxPermissions, maxRules, maxDuties, maxNext}
 use Rattle.board.specs.Limits.{actions, objects}
 use Rattle.board.specs.View.{View, view}
 use Rattle.board.specs.Good.{
@@ -62,6 +62,7 @@ pub record CountsInRange (n : Counts) (next : ℕ) : Type 0 where
   pub rules : n .rules ≤ maxRules
   pub duties : n .duties ≤ maxDuties
   pub serial : 1 ≤ next
+  pub most : next ≤ maxNext
 
 pub counts→range : (n : Counts) (next : ℕ) → countsFit n next ≡ true → CountsInRange n next
 counts→range n next e = search (and-left, and-right, leb-true) depth 8

@@ -4,6 +4,7 @@ pub mod ViewLaws
 pub mod RolesIn
 pub mod Sentences
 pub mod PoolLaws
+pub mod GreenLaws
 pub mod CasesHold
 pub mod AnswersLaws
 pub mod ToldLaws

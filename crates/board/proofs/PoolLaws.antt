@@ -1,6 +1,5 @@
 -- The duties of a board that keeps the rules of the file are a pool of the theory: no serial stands twice,
 -- since they rise by serial; and wholly before is a strict order, since no start is after its end.
--- Assumes nothing.
 use mathlib.Core.Path.{_≡_, refl}
 use mathlib.Core.Bool.{true}
 use Prim.Native.Nat.{_<_}

@@ -1,5 +1,5 @@
 -- Which roles `rolesIn` lists: just those of the set below the limit. Elsewhere `rolesIn` stays shut:
--- this is all that is used of it. Assumes nothing.
+-- this is all that is used of it.
 use mathlib.Core.Path.{_≡_}
 use mathlib.Core.Logic.{_↔_, ⊎-elim}
 use mathlib.Core.Bool.{true}

@@ -1,7 +1,6 @@
 -- What is permitted, and what is changed, is what document 01's sentences say (specs/Sentences.antt):
 -- `permittedNow` looks up the first permission or rule and tests a list of needs. At most one is there, since
 -- the records rise, and the needs are met just if doer and target hold what the sentence says.
--- Assumes nothing.
 use mathlib.Core.Path.{_≡_, refl, sym, _∙_, subst}
 use mathlib.Core.Logic.{_↔_, ⊎-elim}
 use mathlib.Core.Bool.{Bool, true, false, _&&_, cond, Bool·beq}

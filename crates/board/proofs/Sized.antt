@@ -1,5 +1,5 @@
 -- What owning a board tells of its lists' lengths: of a parameter from `c .good`, of a call's result from its
--- `.ok`. Assumes nothing.
+-- `.ok`.
 use mathlib.Core.Path.{sym, _∙_}
 use mathlib.Core.List.{List}
 use mir.Val.{Val}

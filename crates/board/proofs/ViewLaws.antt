@@ -1,5 +1,5 @@
 -- A good board value is settled by what it says: two of one view are equal, since each list is the view's and
--- then filler up to its size. And the smallest board is good. Assumes nothing.
+-- then filler up to its size. And the smallest board is good.
 use mathlib.Core.Path.{_≡_, refl, sym, _∙_, ap}
 use mathlib.Core.Bool.{true}
 use mathlib.Core.List.{List}

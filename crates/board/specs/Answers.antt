@@ -1,11 +1,11 @@
 -- What a call answers. Its checks are a list, in document 01's order, of a number and what it means; the
--- answer is the number of the first that applies, and 0 where none does. Definitions only.
+-- answer is the number of the first that applies, and 0 where none does.
 use mathlib.Core.Path.{_≡_}
 use mathlib.Core.Logic.{_⊎_}
 use mathlib.Core.List.{List, [], _∷_}
 use Prim.Native.Nat.{ℕ}
 use Rattle.board.specs.declared.Answer.{Answer}
-use Rattle.board.specs.Numbers as no
+use Rattle.board.specs.Numbers as answer
 
 pub record Check : Type 1 where
   pub number : ℕ
@@ -15,7 +15,7 @@ abbrev pub check : ℕ → Type 0 → Check
 check number applies = record { number = number; applies = applies }
 
 abbrev pub Answers : List Check → ℕ → Type 0
-Answers [] n = n ≡ no.done
+Answers [] n = n ≡ answer.done
 Answers (c ∷ cs) n = (c .applies × (n ≡ c .number)) ⊎ ((c .applies → ⊥) × Answers cs n)
 
 -- this number, no serial, no failing order
@@ -24,4 +24,4 @@ plainAnswer number = record { number = number; serial = record { 0 = 0 }; length
 
 -- red, with a failing order of this length
 abbrev pub redAnswer : ℕ → Answer
-redAnswer length = record { number = no.red; serial = record { 0 = 0 }; length = length }
+redAnswer length = record { number = answer.red; serial = record { 0 = 0 }; length = length }

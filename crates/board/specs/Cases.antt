@@ -1,5 +1,5 @@
 -- The marked small boards of document 01, section Small boards, each with its verdict, as one table.
--- Definitions only; that every row of it is true is proved in proofs/CasesHold.antt.
+-- That every row of it is true is proved in proofs/CasesHold.antt.
 use mathlib.Core.List.{List, [], _∷_}
 use Prim.Native.Nat.{ℕ, _+_, _^_}
 use lib.ListN.{length}

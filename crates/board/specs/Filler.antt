@@ -1,5 +1,4 @@
 -- What stands in the room beyond each count, the smallest board, and what the board's type says of its lists.
--- Definitions only.
 use mathlib.Core.Path.{_≡_}
 use lib.ListN.{length, replicate}
 use Rattle.board.specs.declared.Board.{Board}

@@ -1,6 +1,5 @@
 -- What a good board value is: every rule of document 01, section Board file, and the filler beyond each
 -- count. A value that breaks one of them gets answer 19. The tests of one record are the file reader's too.
--- Definitions only.
 use mathlib.Core.Bool.{Bool, true, false, _&&_, _||_}
 use mathlib.Core.List.{List, [], _∷_}
 use Prim.Native.Nat.{ℕ, _^_}
@@ -20,6 +19,7 @@ use Rattle.board.specs.Limits.{
   maxPermissions,
   maxRules,
   maxDuties,
+  maxNext,
   actions,
   objects,
 }
@@ -33,7 +33,7 @@ countsFit n next =
     (leb 1 (n .users) && leb (n .users) maxUsers)
     && ((leb 1 (n .roles) && leb (n .roles) maxRoles)
     && (leb (n .permissions) maxPermissions
-    && (leb (n .rules) maxRules && (leb (n .duties) maxDuties && leb 1 next))))
+    && (leb (n .rules) maxRules && (leb (n .duties) maxDuties && (leb 1 next && leb next maxNext)))))
 
 -- ---- one record: its fields in range (else 5), its window (else 7), above the one before it (else 6)
 

@@ -1,10 +1,11 @@
 -- The board as a world of the theory of orders, and with that when a board is green and what a failing order
--- of it is. Definitions only.
-use mathlib.Core.Bool.{Bool}
-use mathlib.Core.List.{List}
+-- of it is.
+use mathlib.Core.Path.{_≡_}
+use mathlib.Core.Bool.{Bool, true}
+use mathlib.Core.List.{List, _∷_, _++_}
 use Prim.Native.Nat.{ℕ}
 use Rattle.orders.specs.Orders as orders
-use Rattle.orders.specs.Orders.{World}
+use Rattle.orders.specs.Orders.{World, Order, Permitted, run}
 use Rattle.orders.specs.Needs.{Duties, met, world}
 use Rattle.board.specs.declared.Duty.{Duty}
 use Rattle.board.specs.declared.Permission.{Permission}
@@ -40,6 +41,21 @@ permittedNow v doer what = met (heldIn (v .holdings)) (needs doer (askedFor (v .
 abbrev pub Green : View → Type 0
 Green v = orders.Green (worldOf v) (heldIn (v .holdings)) (v .duties)
 
+-- Definition 4 of source document 002 as it is printed, the empty prefix counted too: in every allowed order,
+-- whatever comes next after duties that were permitted in turn is permitted. That it and Green agree is proved in
+-- proofs/GreenLaws.antt.
+abbrev pub Definition4 : View → Type 0
+Definition4 v =
+    (order : List Duty) → Order (worldOf v) (v .duties) order
+    → (earlier : List Duty) (next : Duty) (later : List Duty) → order ≡ earlier ++ (next ∷ later)
+    → Permitted (worldOf v) (heldIn (v .holdings)) earlier
+    → worldOf v .permitted (run (worldOf v) (heldIn (v .holdings)) earlier) next ≡ true
+
 -- These serials are the beginning of an allowed order whose duties are all permitted in turn except the last.
 abbrev pub FailingOrder : View → List ℕ → Type 0
 FailingOrder v serials = orders.FailingSerials (worldOf v) (heldIn (v .holdings)) (v .duties) serials
+
+-- Red: some failing order shows it. That a board which keeps the rules is green or red, and never both, is proved
+-- in proofs/GreenLaws.antt.
+abbrev pub Red : View → Type 0
+Red v = (serials : List ℕ) × FailingOrder v serials

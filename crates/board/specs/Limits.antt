@@ -17,6 +17,10 @@ maxRules = 64
 abbrev pub maxDuties : ℕ
 maxDuties = 128
 
+-- the next serial is at most this, and every serial is below the next one
+abbrev pub maxNext : ℕ
+maxNext = 4294967295
+
 -- actions and objects are below these
 abbrev pub actions : ℕ
 actions = 64

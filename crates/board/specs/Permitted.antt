@@ -1,5 +1,5 @@
--- When something to be done is permitted, and what it changes: document 01, section Permitted. Definitions
--- only; that they say document 01's sentences (specs/Sentences.antt) is proved in proofs/Sentences.antt.
+-- When something to be done is permitted, and what it changes: document 01, section Permitted. That
+-- they say document 01's sentences (specs/Sentences.antt) is proved in proofs/Sentences.antt.
 use mathlib.Core.Bool.{Bool, true, false, _&&_}
 use mathlib.Core.Option.{Option, none, some}
 use mathlib.Core.List.{List, [], _∷_, _++_, map}
@@ -9,7 +9,7 @@ use lib.ListN.{getD, set}
 use Rattle.orders.specs.Lists.{keep, find}
 use Rattle.roles.specs.Roles.{inSet, withRole, withoutRole}
 use Rattle.board.specs.declared.Asked.{Asked}
-use Rattle.board.specs.declared.Asked.the-variants.{Nothing, Role, Meets}
+use Rattle.board.specs.declared.Asked.the-variants.{Unruled, Role, Meets}
 use Rattle.board.specs.declared.Duty.{Duty}
 use Rattle.board.specs.declared.Permission.{Permission}
 use Rattle.board.specs.declared.Rule.{Rule}
@@ -50,11 +50,11 @@ abbrev pub governs : ℕ → ℕ → Rule → Bool
 governs kind role r = eqb (r .kind) kind && eqb (r .role) role
 
 abbrev pub byPermission : Option Permission → Asked
-byPermission none = Nothing
+byPermission none = Unruled
 byPermission (some p) = Role (p .role)
 
 abbrev pub byRule : ℕ → Option Rule → Asked
-byRule target none = Nothing
+byRule target none = Unruled
 byRule target (some r) = Meets target r
 
 -- what the permissions and rules ask for this to be done: kind 0 is assign, kind 1 is revoke
@@ -70,7 +70,7 @@ each held user roles = map (λ role. ((user, role), held)) roles
 -- The needs: a holding, and whether it is to be held. The doer holds the permission's role; or the doer holds
 -- the rule's actor role, and the target holds every wanted role and no barred role.
 abbrev pub needs : ℕ → Asked → Option (List (Holding × Bool))
-needs doer Nothing = none
+needs doer Unruled = none
 needs doer (Role role) = some (((doer, role), true) ∷ [])
 needs doer (Meets target rule) =
     some

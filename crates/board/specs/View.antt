@@ -1,4 +1,4 @@
--- The board as the papers see it: lists without filler. Definitions only.
+-- The board as the papers see it: lists without filler.
 use mathlib.Core.List.{List}
 use Prim.Native.Nat.{ℕ}
 use lib.ListN.{take}

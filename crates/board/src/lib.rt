@@ -40,10 +40,10 @@ pub struct Rule {
     pub barred: u32,
 }
 
-// What something to be done asks of the holdings: nothing can be asked where no permission or rule is there;
-// the doer is to hold a role; or doer and target are to meet a rule.
+// What something to be done asks of the holdings: no permission or rule is there for it; the doer is to hold a
+// role; or doer and target are to meet a rule.
 pub enum Asked {
-    Nothing,
+    Unruled,
     Role(u16),
     Meets { target: u16, rule: Rule },
 }
@@ -121,6 +121,8 @@ impl Board {
     pub const RULES: usize = 64;
 
     pub const DUTIES: usize = 128;
+
+    pub const NEXT: u32 = 4294967295;
 
     pub const ACTIONS: u16 = 64;
 

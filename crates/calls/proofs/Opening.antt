@@ -1,7 +1,6 @@
 -- The answers of open: the list is too short; the file is refused; the board that it says is red; it is
 -- green. In the last two the board is the one that the bytes say, and it is good, so that check answers 8 or
 -- 0.
--- Assumes nothing.
 use mathlib.Core.Path.{_≡_, refl}
 use mathlib.Core.Logic.{inl, inr}
 use mathlib.Core.Bool.{false}
@@ -15,10 +14,11 @@ use Rattle.board.specs.declared.Board.{Board}
 use Rattle.board.specs.Answers.{Check, check, Answers}
 use Rattle.board.specs.Filler.{smallestBoard}
 use Rattle.board.specs.Good.{good}
-use Rattle.board.specs.Green.{Green}
+use Rattle.board.specs.Green.{Red}
 use Rattle.board.specs.Limits.{maxDuties}
-use Rattle.board.specs.Numbers as no
-use Rattle.board.proofs.AnswersLaws.{Lacks, done-none, never-answered, refused-first, then-second, past-first}
+use Rattle.board.specs.Numbers as answer
+use Rattle.board.proofs.AnswersLaws.{Lacks, NoneApplies, done-none, never-answered}
+use Rattle.board.proofs.AnswersLaws.{refused-first, then-second, past-first}
 use Rattle.board.proofs.ToldLaws.{untouched}
 use Rattle.file.specs.Reads.{readChecks, boardOf}
 use Rattle.file.proofs.Accepted.{read-refuses, accepted-good}
@@ -26,25 +26,16 @@ use Rattle.verdict.specs.Checked.{Checked}
 use Rattle.calls.specs.Opens.{said, openChecks, Opens, refusedOpen}
 
 -- the last check of open
-abbrev redCheck : List ℕ → List Check
-redCheck s = check no.red (Green (said s) → ⊥) ∷ []
+abbrev pub redCheck : List ℕ → List Check
+redCheck s = check answer.red (Red (said s)) ∷ []
 
 -- reading a file never answers 8
-no-red : (s : List ℕ) → Lacks no.red (readChecks s)
-no-red s = (
-  λ e. omega arith,
-  (
-    λ e. omega arith,
-    (
-      λ e. omega arith,
-      (λ e. omega arith, (λ e. omega arith, (λ e. omega arith, (λ e. omega arith, (λ e. omega arith, tt))))),
-    ),
-  ),
-)
+no-red : (s : List ℕ) → Lacks answer.red (readChecks s)
+no-red s = refl
 
 module _ (s before : List ℕ) where
   refused-with :
-      (number : ℕ) → (number ≡ no.done → ⊥) → (number ≡ no.red → ⊥)
+      (number : ℕ) → (number ≡ answer.done → ⊥) → (number ≡ answer.red → ⊥)
       → Answers (openChecks s (length before)) number → Opens s before before (refusedOpen number)
   refused-with number d f a =
       record {
@@ -55,49 +46,48 @@ module _ (s before : List ℕ) where
         serial = refl;
       }
 
-  pub short : length before < maxDuties → Opens s before before (refusedOpen no.list)
-  short h = refused-with no.list (λ e. omega arith) (λ e. omega arith) (inl (h, refl))
+  pub short : length before < maxDuties → Opens s before before (refusedOpen answer.list)
+  short h = refused-with answer.list (λ e. omega arith) (λ e. omega arith) (inl (h, refl))
 
   module _ (room : maxDuties ≤ length before) where
     pub not-read :
-        (number : ℕ) → Answers (readChecks s) number → (number ≡ no.done → ⊥)
+        (number : ℕ) → Answers (readChecks s) number → (number ≡ answer.done → ⊥)
         → Opens s before before (refusedOpen number)
     not-read number a d =
         refused-with
         number
         d
-        (never-answered no.red (readChecks s) number (λ e. omega arith) (no-red s) a)
+        (never-answered answer.red (readChecks s) number (λ e. omega arith) (no-red s) a)
         (inr (λ h. omega arith, refused-first (readChecks s) (redCheck s) number d a))
 
     -- the file is read, and check answers r on the board that it says
     module _
-        (accepted : Answers (readChecks s) no.done) (board : Board) (is : board ≡ boardOf s) (after : List ℕ)
+        (accepted : Answers (readChecks s) answer.done) (board : Board) (is : board ≡ boardOf s) (after : List ℕ)
         (r : Answer) (checked : Checked board before after r)
       where
         it : Checked (boardOf s) before after r
         it = rw is at checked
 
+        none : NoneApplies (readChecks s)
+        none = done-none (readChecks s) (read-refuses s) accepted
+
         number : Answers (openChecks s (length before)) (r .number)
         number =
             inr (
               λ h. omega arith,
-              then-second
-                  (readChecks s)
-                  (redCheck s)
-                  (r .number)
-                  (done-none (readChecks s) (read-refuses s) accepted)
+              then-second (readChecks s) (redCheck s) (r .number) none
                   (past-first
-                  (check no.broken (good (boardOf s) ≡ false)
-                  ∷ check no.list (length before < maxDuties)
+                  (check answer.broken (good (boardOf s) ≡ false)
+                  ∷ check answer.list (length before < maxDuties)
                   ∷ [])
                   (redCheck s)
                   (r .number)
-                  (λ e. clash (accepted-good s accepted) e, (λ h. omega arith, tt))
+                  (λ e. clash (accepted-good s none) e, (λ h. omega arith, tt))
                   (it .number)),
             )
 
         pub opened-red :
-            (r .number ≡ no.done → ⊥) → (kept : Board) → kept ≡ smallestBoard
+            (r .number ≡ answer.done → ⊥) → (kept : Board) → kept ≡ smallestBoard
             → Opens s before after (record { answer = r; board = kept })
         opened-red f kept e =
             record {
@@ -108,7 +98,7 @@ module _ (s before : List ℕ) where
               serial = it .serial;
             }
 
-        pub opened-green : r .number ≡ no.done → Opens s before after (record { answer = r; board = board })
+        pub opened-green : r .number ≡ answer.done → Opens s before after (record { answer = r; board = board })
         opened-green e =
             record {
               number = number;

@@ -1,5 +1,5 @@
--- What open promises settles its outcome: two outcomes that keep the promise have one number and one board,
--- and where the number is not 8 they are one answer and leave the same list. Assumes nothing.
+-- What open promises settles its outcome: two outcomes that keep the promise have one number and one board, and
+-- they are one answer and leave the same list, once the failing order is chosen.
 use mathlib.Core.Path.{_≡_, sym, _∙_}
 use mathlib.Core.List.{List}
 use Prim.Native.Nat.{ℕ}
@@ -7,9 +7,9 @@ use lib.Dec.{eqb}
 use lib.ListN.{length}
 use borrow.Author.Tests.{eqb-true, eqb-false}
 use Rattle.orders.proofs.Tests.{by-test}
-use Rattle.board.specs.Numbers as no
+use Rattle.board.specs.Numbers as answer
 use Rattle.board.proofs.AnswersLaws.{same-answer}
-use Rattle.board.proofs.ToldLaws.{same-told}
+use Rattle.board.proofs.ToldLaws.{OneOrder, same-told}
 use Rattle.calls.specs.declared.Opened.{Opened}
 use Rattle.calls.specs.Opens.{said, openChecks, Opens}
 
@@ -25,16 +25,15 @@ module _
     pub same-board : r .board ≡ r′ .board
     same-board =
         by-test
-        (eqb (r .answer .number) no.done)
+        (eqb (r .answer .number) answer.done)
         (λ t.
-        let e = eqb-true (r .answer .number) no.done t in
+        let e = eqb-true (r .answer .number) answer.done t in
         p .accepted e ∙ sym (q .accepted (sym same-number ∙ e)))
         (λ f.
-        let d = eqb-false (r .answer .number) no.done f in
+        let d = eqb-false (r .answer .number) answer.done f in
         p .refused d ∙ sym (q .refused (λ e. d (same-number ∙ e))))
 
-    pub same-opening :
-        (r .answer .number ≡ no.red → ⊥) → (r .answer ≡ r′ .answer) × (after ≡ after′)
+    pub same-opening : OneOrder (p .told) (q .told) → (r .answer ≡ r′ .answer) × (after ≡ after′)
     same-opening =
-        same-told (said s) before after after′ (r .answer) (r′ .answer) same-number (p .serial) (q .serial)
-        (p .told) (q .told)
+        same-told (said s) before after after′ (r .answer) (r′ .answer) same-number
+        (p .serial ∙ sym (q .serial)) (p .told) (q .told)

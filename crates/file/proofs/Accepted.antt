@@ -1,17 +1,16 @@
 -- The board of an accepted file. What it says is what the records say. It is good: its counts fit; no
 -- record has a fault, so each fits and stands above the one before it; and beyond each count stands the
--- filler. Assumes nothing.
+-- filler.
 use mathlib.Core.Path.{_≡_, refl, sym, _∙_, ap}
 use mathlib.Core.Bool.{Bool, true, false, _&&_}
-use mathlib.Core.List.{List, [], map}
-use Prim.Native.Nat.{ℕ, suc, _≤_}
+use mathlib.Core.List.{List, map}
+use Prim.Native.Nat.{ℕ, _≤_}
 use native.Mathlib.Omega.{arith}
 use lib.Dec.{eqb}
 use lib.ListN.{length}
 use borrow.Author.Tests.{eqb-true}
 use Rattle.orders.proofs.Tests.{and-left, and-right, and-both, is-true}
 use Rattle.board.specs.declared.Duty.{Duty}
-use Rattle.board.specs.Answers.{Answers}
 use Rattle.board.specs.Filler.{noPermission, noRule, noDuty, Sized}
 use Rattle.board.specs.Good.{good, countsFit, setFits, permissionFits, ruleFits, dutyFits, windowFits}
 use Rattle.board.specs.Good.{permissionBelow, ruleBelow, dutyBelow}
@@ -19,10 +18,10 @@ use Rattle.board.specs.Good.{holdingsFit, permissionsFit, rulesFit, dutiesFit, 
 use Rattle.board.specs.Limits.{maxUsers, maxPermissions, maxRules, maxDuties}
 use Rattle.board.specs.Permitted.{below}
 use Rattle.board.specs.View.{View, view}
-use Rattle.board.proofs.AnswersLaws.{Refusing, NoneApplies, done-none, past-first}
+use Rattle.board.proofs.AnswersLaws.{Refusing, NoneApplies, none-done, none-first, none-second}
 use Rattle.board.proofs.GoodLaws.{CountsInRange, FillerBeyond, counts→range, beyond→filler, parts→good}
 use Rattle.file.specs.Bytes.{four}
-use Rattle.file.specs.Layout.{countsOf, clockOf, nextOf, totalOf, laidOut}
+use Rattle.file.specs.Layout.{headerSize, countsOf, clockOf, nextOf, totalOf, laidOut}
 use Rattle.file.specs.Records.{holdingAt, permissionAt, ruleAt, ruleSpare, dutyAt, secondFits}
 use Rattle.file.specs.Records.{faultOf, isAbove, firstFault}
 use Rattle.file.specs.Reads.{headerChecks, recordChecks, readChecks, boardOf}
@@ -130,18 +129,15 @@ module _ (s : List ℕ) (none : NoFault s) where
 
 -- ---- the checks
 
-refuses : {n : ℕ} → suc n ≡ 0 → ⊥
-refuses e = omega arith
-
 pub header-refuses : (s : List ℕ) → Refusing (headerChecks s)
-header-refuses s = (refuses, (refuses, (refuses, (refuses, (refuses, tt)))))
+header-refuses s = refl
 
 pub read-refuses : (s : List ℕ) → Refusing (readChecks s)
-read-refuses s = (refuses, (refuses, (refuses, (refuses, (refuses, (refuses, (refuses, (refuses, tt))))))))
+read-refuses s = refl
 
 -- what a header tells of which no check applies
 pub record HeaderPasses (s : List ℕ) : Type 0 where
-  pub long : 40 ≤ length s
+  pub long : headerSize ≤ length s
   pub counts : countsFit (countsOf s) (nextOf s) ≡ true
   pub total : totalOf (countsOf s) ≡ length s
 
@@ -161,18 +157,15 @@ header-passes s none =
 
 -- ---- an accepted file
 
-module _ (s : List ℕ) (answer : Answers (readChecks s) 0) where
-  none : NoneApplies (readChecks s)
-  none = done-none (readChecks s) (read-refuses s) answer
-
+module _ (s : List ℕ) (none : NoneApplies (readChecks s)) where
   pub accepted-header : HeaderPasses s
-  accepted-header =
-      header-passes s
-      (none .0, (none .1 .0, (none .1 .1 .0, (none .1 .1 .1 .0, (none .1 .1 .1 .1 .0, tt)))))
+  accepted-header = header-passes s (none-first (headerChecks s) (recordChecks s) none)
 
   pub accepted-faultless : NoFault s
   accepted-faultless =
-      no-fault s (past-first (recordChecks s) [] (firstFault s) (none .1 .1 .1 .1 .1) (fault-answers s))
+      no-fault s
+      (none-done (recordChecks s) (firstFault s) (none-second (headerChecks s) (recordChecks s) none)
+      (fault-answers s))
 
   pub accepted-counts : CountsInRange (countsOf s) (nextOf s)
   accepted-counts = counts→range (countsOf s) (nextOf s) (accepted-header .counts)

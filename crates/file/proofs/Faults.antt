@@ -1,6 +1,6 @@
 -- The first fault of a file is the first of its parts' first faults, and a part's the first of its records'
 -- faults: so the loop over the parts and the loop over their records go by the same laws. What the first
--- fault can be, and what holds of a file without one. Assumes nothing.
+-- fault can be, and what holds of a file without one.
 use mathlib.Core.Path.{_≡_, refl, sym, _∙_}
 use mathlib.Core.Logic.{inl, inr}
 use mathlib.Core.Bool.{Bool, true, false, _&&_, cond}
@@ -12,7 +12,7 @@ use native.Mathlib.Omega.{arith}
 use lib.Dec.{eqb}
 use Rattle.board.specs.Answers.{check, Answers}
 use Rattle.board.specs.Good as g
-use Rattle.board.specs.Numbers as no
+use Rattle.board.specs.Numbers as answer
 use Rattle.board.specs.Permitted.{below}
 use Rattle.file.specs.Layout.{countsOf, nextOf}
 use Rattle.file.specs.Parts.{sizeOf, faultAt}
@@ -110,8 +110,8 @@ first-by-parts s = simp (first-append, first-below, or-else-assoc)
 abbrev Known : ℕ → Type 0
 Known fault =
     Answers
-    (check no.field (fault ≡ no.field)
-    ∷ (check no.window (fault ≡ no.window) ∷ (check no.notAbove (fault ≡ no.notAbove) ∷ [])))
+    (check answer.field (fault ≡ answer.field)
+    ∷ (check answer.window (fault ≡ answer.window) ∷ (check answer.notAbove (fault ≡ answer.notAbove) ∷ [])))
     fault
 
 none-known : Known 0

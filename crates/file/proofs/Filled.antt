@@ -1,6 +1,6 @@
 -- The records of a part of the file, by number: how many they are, whether all fit, whether they rise. And a
 -- list that is filled with them from the front, with filler in the rest of the room: each turn of a loop that
--- fills writes the next record in the place of the first filler. Assumes nothing.
+-- fills writes the next record in the place of the first filler.
 use mathlib.Core.Path.{_≡_, refl, sym, _∙_, ap}
 use mathlib.Core.Bool.{Bool, true, false}
 use mathlib.Core.List.{List, [], _∷_, _++_, map, map-append, append-assoc, Memᴰ·of-map}

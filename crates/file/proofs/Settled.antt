@@ -1,12 +1,11 @@
 -- What reading promises settles it: two readings of the same bytes that keep the promise are one.
--- Assumes nothing.
 use mathlib.Core.Path.{_≡_, sym, _∙_}
 use mathlib.Core.List.{List}
 use Prim.Native.Nat.{ℕ}
 use lib.Dec.{eqb}
 use borrow.Author.Tests.{eqb-true, eqb-false}
 use Rattle.orders.proofs.Tests.{by-test}
-use Rattle.board.specs.Numbers as no
+use Rattle.board.specs.Numbers as answer
 use Rattle.board.proofs.AnswersLaws.{same-answer}
 use Rattle.file.specs.declared.Reading.{Reading}
 use Rattle.file.specs.Reads.{readChecks, Reads}
@@ -18,9 +17,9 @@ module _ (s : List ℕ) (a b : Reading) (p : Reads s a) (q : Reads s b) where
   board : a .board ≡ b .board
   board =
       by-test
-      (eqb (a .number) no.done)
-      (λ t. let e = eqb-true (a .number) no.done t in p .accepted e ∙ sym (q .accepted (sym number ∙ e)))
-      (λ f. let n = eqb-false (a .number) no.done f in p .refused n ∙ sym (q .refused (λ e. n (number ∙ e))))
+      (eqb (a .number) answer.done)
+      (λ t. let e = eqb-true (a .number) answer.done t in p .accepted e ∙ sym (q .accepted (sym number ∙ e)))
+      (λ f. let n = eqb-false (a .number) answer.done f in p .refused n ∙ sym (q .refused (λ e. n (number ∙ e))))
 
   pub same-reading : a ≡ b
   same-reading = λ i. record { number = number i; board = board i }

@@ -1,4 +1,4 @@
--- Numbers in bytes, the low byte first: document 01, section Board file. Definitions only.
+-- Numbers in bytes, the low byte first: document 01, section Board file.
 use mathlib.Core.List.{List}
 use Prim.Native.Nat.{ℕ, _+_, _*_}
 use lib.ListN.{getD}

@@ -1,5 +1,5 @@
 -- Where the parts of a board file stand: a header of 40 bytes, then holdings, permissions, rules and duties
--- with no gaps. Definitions only.
+-- with no gaps.
 use mathlib.Core.Bool.{Bool, _&&_}
 use mathlib.Core.List.{List}
 use Prim.Native.Nat.{ℕ, _+_, _*_}

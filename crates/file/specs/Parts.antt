@@ -1,5 +1,4 @@
 -- The parts by number, as the code goes through them: 0 holdings, 1 permissions, 2 rules, 3 duties.
--- Definitions only.
 use mathlib.Core.Path.{_≡_}
 use mathlib.Core.Bool.{cond}
 use mathlib.Core.List.{List}

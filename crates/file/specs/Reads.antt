@@ -1,4 +1,4 @@
--- What reading a board file promises, for every byte string. Definitions only.
+-- What reading a board file promises, for every byte string.
 use mathlib.Core.Path.{_≡_}
 use mathlib.Core.Bool.{false}
 use mathlib.Core.List.{List, [], _∷_, _++_, map}
@@ -9,7 +9,7 @@ use Rattle.board.specs.Answers.{Check, check, Answers}
 use Rattle.board.specs.Filler.{noPermission, noRule, noDuty, smallestBoard}
 use Rattle.board.specs.Good.{countsFit}
 use Rattle.board.specs.Limits.{maxUsers, maxPermissions, maxRules, maxDuties}
-use Rattle.board.specs.Numbers as no
+use Rattle.board.specs.Numbers as answer
 use Rattle.board.specs.Permitted.{below}
 use Rattle.file.specs.declared.Reading.{Reading}
 use Rattle.file.specs.Bytes.{two, four}
@@ -19,17 +19,17 @@ use Rattle.file.specs.Records.{holdingAt, permissionAt, ruleAt, dutyAt, 
 -- the checks of the header
 abbrev pub headerChecks : List ℕ → List Check
 headerChecks s =
-    check no.short (length s < headerSize)
-    ∷ (check no.version (two s 0 ≡ 1 → ⊥)
-    ∷ (check no.count (countsFit (countsOf s) (nextOf s) ≡ false)
-    ∷ (check no.layout (laidOut s ≡ false)
-    ∷ (check no.long (longest < four s 36) ∷ []))))
+    check answer.short (length s < headerSize)
+    ∷ (check answer.version (two s 0 ≡ 1 → ⊥)
+    ∷ (check answer.count (countsFit (countsOf s) (nextOf s) ≡ false)
+    ∷ (check answer.layout (laidOut s ≡ false)
+    ∷ (check answer.long (longest < four s 36) ∷ []))))
 
 -- the checks of the records: the first faulty one in file order decides
 abbrev pub recordChecks : List ℕ → List Check
 recordChecks s =
-    check no.field (firstFault s ≡ no.field)
-    ∷ (check no.window (firstFault s ≡ no.window) ∷ (check no.notAbove (firstFault s ≡ no.notAbove) ∷ []))
+    check answer.field (firstFault s ≡ answer.field)
+    ∷ (check answer.window (firstFault s ≡ answer.window) ∷ (check answer.notAbove (firstFault s ≡ answer.notAbove) ∷ []))
 
 abbrev pub readChecks : List ℕ → List Check
 readChecks s = headerChecks s ++ recordChecks s
@@ -55,5 +55,5 @@ boardOf s =
 -- refused one the smallest board.
 pub record Reads (s : List ℕ) (r : Reading) : Type 0 where
   pub number : Answers (readChecks s) (r .number)
-  pub accepted : r .number ≡ no.done → r .board ≡ boardOf s
-  pub refused : (r .number ≡ no.done → ⊥) → r .board ≡ smallestBoard
+  pub accepted : r .number ≡ answer.done → r .board ≡ boardOf s
+  pub refused : (r .number ≡ answer.done → ⊥) → r .board ≡ smallestBoard

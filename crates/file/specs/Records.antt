@@ -1,6 +1,6 @@
 -- The records of a board file and their faults: 5 where a field is out of its range or spare is not zero,
 -- then 7 where the start is after the end, then 6 where the record is not above the one before it; 0 is no
--- fault. Definitions only.
+-- fault.
 use mathlib.Core.Bool.{Bool, true, _&&_, _||_, cond}
 use mathlib.Core.List.{List, [], _∷_, _++_, map}
 use Prim.Native.Nat.{ℕ, zero, suc, _+_, _-_, _*_}
@@ -11,7 +11,7 @@ use Rattle.board.specs.declared.Rule.{Rule}
 use Rattle.board.specs.declared.What.{What}
 use Rattle.board.specs.declared.What.the-variants.{Grant, Revoke, Use}
 use Rattle.board.specs.Good as g
-use Rattle.board.specs.Numbers as no
+use Rattle.board.specs.Numbers as answer
 use Rattle.board.specs.Permitted.{below}
 use Rattle.file.specs.Bytes.{two, four}
 use Rattle.file.specs.Layout.{countsOf, nextOf, holdingsFrom, permissionsFrom, rulesFrom, dutiesFrom}
@@ -74,7 +74,7 @@ secondFits s i =
 -- ---- the fault of one record
 
 abbrev pub faultOf : Bool → Bool → Bool → ℕ
-faultOf fits window above = cond fits (cond window (cond above no.done no.notAbove) no.window) no.field
+faultOf fits window above = cond fits (cond window (cond above answer.done answer.notAbove) answer.window) answer.field
 
 -- the first record of a part has none before it
 abbrev pub isAbove : {A : Type 0} → (A → A → Bool) → (ℕ → A) → ℕ → Bool
@@ -114,7 +114,7 @@ orElse (suc fault) rest = suc fault
 
 -- the first that is one; 0 where none is
 abbrev pub firstOf : List ℕ → ℕ
-firstOf [] = no.done
+firstOf [] = answer.done
 firstOf (fault ∷ rest) = orElse fault (firstOf rest)
 
 abbrev pub firstFault : List ℕ → ℕ

@@ -1,5 +1,5 @@
 -- That `decimal` gives the decimal digits of every number of 64 bits: each byte is a digit, they read back as
--- the number, and no zero stands in front of them. By the number of digits. Assumes nothing.
+-- the number, and no zero stands in front of them. By the number of digits.
 use mathlib.Core.Path.{_≡_, refl}
 use mathlib.Core.Logic.{⊎-elim}
 use mathlib.Core.List.{List, [], _∷_, _++_}

@@ -1,10 +1,9 @@
 -- Lines of document 01 as bytes, by computation: `no 3 2 1 3` of case 8, `yes 2` and `refused 19`.
--- Assumes nothing.
 use mathlib.Core.Path.{_≡_, refl}
 use mathlib.Core.List.{List, [], _∷_}
 use Prim.Native.Nat.{ℕ}
 use Rattle.board.specs.Answers.{plainAnswer, redAnswer}
-use Rattle.board.specs.Numbers as no
+use Rattle.board.specs.Numbers as answer
 use Rattle.line.specs.Line.{decimal, lineOf}
 
 -- "no 3 2 1 3\n"; the lent list is longer than the failing order
@@ -14,12 +13,12 @@ unfolding lineOf decimal
 red-line = refl
 
 -- "yes 2\n", whatever stands in the lent list
-done-line : (list : List ℕ) → lineOf (plainAnswer no.done) 2 list ≡ 121 ∷ 101 ∷ 115 ∷ 32 ∷ 50 ∷ 10 ∷ []
+done-line : (list : List ℕ) → lineOf (plainAnswer answer.done) 2 list ≡ 121 ∷ 101 ∷ 115 ∷ 32 ∷ 50 ∷ 10 ∷ []
 unfolding lineOf decimal
 done-line list = refl
 
 -- "refused 19\n", whatever the number of duties and the list
-refused-line : (duties : ℕ) (list : List ℕ) → lineOf (plainAnswer no.broken) duties list
+refused-line : (duties : ℕ) (list : List ℕ) → lineOf (plainAnswer answer.broken) duties list
     ≡ 114 ∷ 101 ∷ 102 ∷ 117 ∷ 115 ∷ 101 ∷ 100 ∷ 32 ∷ 49 ∷ 57 ∷ 10 ∷ []
 unfolding lineOf decimal
 refused-line duties list = refl

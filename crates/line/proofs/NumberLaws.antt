@@ -1,5 +1,5 @@
 -- Laws of decimal digits and of numbers with a space before each: how long they are, so that every line has
--- room, and what one more digit in front and one more number behind make of them. Assumes nothing.
+-- room, and what one more digit in front and one more number behind make of them.
 use mathlib.Core.Path.{_≡_, refl}
 use mathlib.Core.Bool.{Bool, true, false, cond}
 use mathlib.Core.List.{List, [], _∷_, _++_, append-assoc, append-nil}

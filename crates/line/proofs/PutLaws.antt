@@ -1,6 +1,5 @@
 -- Laws of putting bytes at a place: nothing put, one byte put, and bytes put after bytes, of which every line
 -- is made. Putting keeps the room's length, so what is put next stands where the first ended.
--- Assumes nothing.
 use mathlib.Core.Path.{_≡_, refl, sym, _∙_}
 use mathlib.Core.List.{List, [], _∷_, _++_, append-assoc}
 use Prim.Native.Nat.{ℕ, _+_, _≤_, _<_}

@@ -1,5 +1,4 @@
 -- The line that is printed for an answer: document 01, section Small boards, last paragraph.
--- Definitions only.
 use mathlib.Core.Path.{_≡_}
 use mathlib.Core.Bool.{cond}
 use mathlib.Core.List.{List, [], _∷_, _++_}
@@ -8,7 +7,7 @@ use lib.Dec.{eqb, ltb}
 use lib.ListN.{length, take, drop}
 use Rattle.board.specs.declared.Answer.{Answer}
 use Rattle.board.specs.Limits.{maxDuties}
-use Rattle.board.specs.Numbers as no·
+use Rattle.board.specs.Numbers as answer
 
 -- the decimal digits of a number, in ASCII; k is a bound on how many there are
 abbrev pub digits : ℕ → ℕ → List ℕ
@@ -40,8 +39,8 @@ newline = 10 ∷ []
 -- `yes` and the number of duties; `no`, the length of the order and its serials; or `refused` and the number
 unfoldable pub lineOf : Answer → ℕ → List ℕ → List ℕ
 lineOf r duties list =
-    cond (eqb (r .number) no·.done) (yes ++ (numbers (duties ∷ []) ++ newline))
-    (cond (eqb (r .number) no·.red)
+    cond (eqb (r .number) answer.done) (yes ++ (numbers (duties ∷ []) ++ newline))
+    (cond (eqb (r .number) answer.red)
     (no ++ (numbers (r .length ∷ take (min (r .length) maxDuties) list) ++ newline))
     (refused ++ (numbers (r .number ∷ []) ++ newline)))
 

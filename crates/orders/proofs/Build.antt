@@ -2,7 +2,6 @@
 -- wholly before one of its own. The idea: put each duty in front of the first that it is wholly before; that
 -- sorts the whole pool into an order. To let a list begin an order, write down after it what it leaves out,
 -- sorted so.
--- Assumes nothing.
 use mathlib.Core.Path.{_≡_, refl, sym, _∙_, ap}
 use mathlib.Core.Logic.{_≢_, ⊎-elim}
 use mathlib.Core.Bool.{Bool, true, false, not, cond}

@@ -1,6 +1,6 @@
 -- A failing order given by its serials, checked by a function: it looks up the duties, and tests that they
 -- are spaced, leave out no duty wholly before one of their own, and are permitted in turn but for the last.
--- Used where a board is written out, as in the table of the marked cases. Assumes nothing.
+-- Used where a board is written out, as in the table of the marked cases.
 use mathlib.Core.Path.{_≡_, refl, ap, ap₂}
 use mathlib.Core.Logic.{⊎-elim}
 use mathlib.Core.Bool.{Bool, true, false, not, _&&_, _||_}

@@ -1,7 +1,6 @@
 -- The clock: a green board on which no window is over can be carried out in every allowed order. The idea:
 -- doing d at the later of the clock and its start keeps every other window open, since no duty left is wholly
 -- before d, so each ends no earlier than d starts. Also: windows make wholly before a strict order.
--- Assumes nothing.
 use mathlib.Core.Path.{_≡_, refl, sym, _∙_}
 use mathlib.Core.Bool.{true, false}
 use mathlib.Core.List.{List, [], _∷_}

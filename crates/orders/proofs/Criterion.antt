@@ -3,7 +3,6 @@
 -- last duty to set it wrong is x, and nothing between x and d set it right (b). If the criterion says red,
 -- the order is built: for (a), all that is wholly before d, then d; for (b), what is wholly before d or x and
 -- need not follow x, then x, then what lies between x and d, then d.
--- Assumes nothing.
 use mathlib.Core.Path.{_≡_, refl}
 use mathlib.Core.Logic.{inl, inr, ⊎-elim}
 use mathlib.Core.Bool.{Bool, true, false, not, _||_}

@@ -1,7 +1,6 @@
 -- A list done duty by duty and cut after the first that is not permitted. Where a list goes through, nothing
 -- is cut from it and what follows is judged from the holdings that it leaves; where it gets stuck, what
 -- follows does not matter.
--- Assumes nothing.
 use mathlib.Core.Path.{_≡_, refl, ap, _∙_}
 use mathlib.Core.Logic.{_↔_}
 use mathlib.Core.Bool.{true, false, _&&_, cond}

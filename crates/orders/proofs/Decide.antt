@@ -1,6 +1,5 @@
 -- The tests of the criterion agree with its records: `isRed` is true exactly where the board is red by it.
 -- Each test is taken apart into the parts of its record and put together again.
--- Assumes nothing.
 use mathlib.Core.Path.{_≡_, refl}
 use mathlib.Core.Logic.{_↔_, _⊎_, inl, inr, ⊎-elim}
 use mathlib.Core.Bool.{Bool, true, false, not, _&&_, _||_, Bool·beq}

@@ -1,7 +1,6 @@
 -- Document 01's fact, in one place: a board is red exactly if some duty has no permission or rule, or some
 -- holding that it needs can be wrong before it; and red exactly if it has a failing order. It holds for any
 -- rule of wholly before that is a strict order on the open duties, and a test decides it.
--- Assumes nothing.
 use mathlib.Core.Path.{_≡_}
 use mathlib.Core.Logic.{_↔_, _⊎_, inl, inr}
 use mathlib.Core.Bool.{true, false}

@@ -2,7 +2,6 @@
 -- order refutes it. To make one, code builds a beginning in which some duty is not permitted in its turn, and
 -- cuts it after the first such duty: an allowed order that begins with the whole list begins with the cut
 -- list too.
--- Assumes nothing.
 use mathlib.Core.Path.{_≡_, refl, ap, subst}
 use mathlib.Core.Logic.{_↔_}
 use mathlib.Core.Bool.{true, false}

@@ -1,6 +1,5 @@
 -- How long lists of duties can get: an order is a permutation of the open duties, so it is as long as the
 -- pool, and a failing order, which begins one, is no longer.
--- Assumes nothing.
 use mathlib.Core.Path.{_≡_}
 use mathlib.Core.List.{List, _∷_, _++_}
 use Prim.Native.Nat.{_≤_}

@@ -1,6 +1,5 @@
 -- The line in which d gets stuck, cut after the first duty that is not permitted, is a failing order. Where x
 -- is d itself, d stands in the line twice; it is not permitted the first time, so the rest is cut off.
--- Assumes nothing.
 use mathlib.Core.Path.{_≡_, ap, _∙_}
 use mathlib.Core.Bool.{Bool, false}
 use mathlib.Core.List.{List, [], _∷_, _++_}

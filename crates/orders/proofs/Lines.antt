@@ -1,7 +1,6 @@
 -- Lists that an allowed order can begin with, cut out of an order o of the open duties: what is early for x
 -- and d, then x; and, where x may stand before d, the whole line to d. The idea: whatever is wholly before d
 -- is x, or lies between x and d, or is early; and nothing early is x or after it.
--- Assumes nothing.
 use mathlib.Core.Path.{_≡_, sym, ap, _∙_}
 use mathlib.Core.Logic.{_≢_, _⊎_, inl, inr, ⊎-elim}
 use mathlib.Core.Bool.{Bool, true, false, not, _||_}

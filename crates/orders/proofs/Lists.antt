@@ -1,7 +1,6 @@
 -- Laws of lists with tests: what `any`, `all`, `keep` and `find` say of the members, where a member stands,
 -- and relations between earlier and later members. (Members of `map f l`: `Memᴰ·map`, `Memᴰ·of-map` of the
 -- library.)
--- Assumes nothing.
 use mathlib.Core.Path.{_≡_, refl, sym, _∙_, ap}
 use mathlib.Core.Bool.{Bool, true, false, not, _&&_, cond}
 use mathlib.Core.Logic.{_⊎_, inl, inr, ⊎-elim}

@@ -1,6 +1,5 @@
 -- What a loop over the first places of an array says: `take i l` are the places done, `getD l i d` the one at
 -- hand. One place more adds one test to `any`.
--- Assumes nothing.
 use mathlib.Core.Path.{_≡_, refl, sym, _∙_, ap}
 use mathlib.Core.Bool.{Bool, true, false, _||_}
 use mathlib.Core.List.{List, [], _∷_}

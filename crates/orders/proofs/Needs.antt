@@ -1,7 +1,6 @@
 -- What a duty's needs and effect mean, one holding at a time: permitted is to have a permission or rule and
 -- every need met; doing it sets a holding or leaves it. So a holding that is wrong after a list of duties was
 -- wrong before and nothing set it right, or something set it wrong and nothing after that set it right.
--- Assumes nothing.
 use mathlib.Core.Path.{_≡_, refl, sym, _∙_, ap}
 use mathlib.Core.Logic.{_⊎_, inl, inr, ⊎-elim}
 use mathlib.Core.Bool.{Bool, true, false, not, Bool·beq}

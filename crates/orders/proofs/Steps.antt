@@ -2,7 +2,6 @@
 -- is left, and that is an order of the whole. So a green board stays green when d is done, and a failing
 -- order of what is left, with d in front, is one of the whole. Green depends on which duties are open, not on
 -- where they stand.
--- Assumes nothing.
 use mathlib.Core.Path.{_≡_, refl, sym, ap}
 use mathlib.Core.Logic.{_↔_, inl, inr, ⊎-elim}
 use mathlib.Core.Bool.{true, false, not}

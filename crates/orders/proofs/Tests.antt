@@ -1,5 +1,4 @@
 -- Yes-or-no tests: each is true or false, never both, and what `not`, `&&`, `||` and equality say of them.
--- Assumes nothing.
 use mathlib.Core.Path.{_≡_, refl, sym, _∙_}
 use mathlib.Core.Logic.{_⊎_, inl, inr}
 use mathlib.Core.Bool.{Bool, true, false, not, _&&_, _||_, Bool·beq, true≢false}

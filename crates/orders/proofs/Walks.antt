@@ -1,6 +1,5 @@
 -- Two other ways to say what an order is. It is a walk: it takes, at each step, a duty that none of those
 -- left is wholly before. And it is a permutation of the open duties that the windows allow.
--- Assumes nothing.
 use mathlib.Core.Path.{_≡_, refl, sym, ap, _∙_, subst₂}
 use mathlib.Core.Logic.{_↔_}
 use mathlib.Core.List.{

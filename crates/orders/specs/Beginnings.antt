@@ -1,5 +1,5 @@
 -- Words for lists of duties on the way to a failing order: what an allowed order can begin with, and where
--- such a list gets stuck. Definitions only. No promise rests on these words: Orders.antt says what a failing
+-- such a list gets stuck. No promise rests on these words: Orders.antt says what a failing
 -- order is, and proofs/Failing.antt that what is said here makes one.
 use mathlib.Core.Path.{_≡_}
 use mathlib.Core.Bool.{true, false}

@@ -1,6 +1,5 @@
 -- Duties carried out by the clock: each at the earliest minute that its window and the clock permit.
 -- `last d` is the last minute at which d may be done: where windows include both ends, the window's end.
--- Definitions only.
 use mathlib.Core.Path.{_≡_}
 use mathlib.Core.Bool.{true}
 use mathlib.Core.List.{List, [], _∷_}

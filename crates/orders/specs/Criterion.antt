@@ -1,6 +1,6 @@
 -- Document 01's quick criterion for a red board: some duty has no permission or rule, or some holding that it
--- needs can be wrong before it. Definitions only; that it says red exactly where the board is not green is
--- proved in proofs/Fact.antt.
+-- needs can be wrong before it. That it says red exactly where the board is not green is proved in
+-- proofs/Fact.antt.
 use mathlib.Core.Path.{_≡_}
 use mathlib.Core.Logic.{_≢_, _⊎_}
 use mathlib.Core.Bool.{Bool, true, false, not, _&&_, _||_, Bool·beq}

@@ -1,7 +1,7 @@
 -- The list in which a red board's duty d gets stuck. `pool` is in an allowed order. For a need that x can
 -- make wrong: what must come early, x, what lies between x and d, d; where d has no permission or rule, or a
 -- need that stays wrong, x is d itself. Done duty by duty and cut after the first that is not permitted, the
--- list is a failing order. Definitions only.
+-- list is a failing order.
 use mathlib.Core.Path.{_≡_}
 use mathlib.Core.Bool.{Bool, true, false, not, _&&_, _||_, cond}
 use mathlib.Core.List.{List, [], _∷_, _++_}

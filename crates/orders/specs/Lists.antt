@@ -1,5 +1,4 @@
 -- Lists with tests: membership, some, all, keep, find, and pairs of earlier and later members.
--- Definitions only.
 use mathlib.Core.Bool.{Bool, true, false, _&&_, _||_, cond}
 use mathlib.Core.Option.{Option, none, some}
 use mathlib.Core.List.{List, [], _∷_}

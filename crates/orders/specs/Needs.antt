@@ -1,5 +1,4 @@
 -- Duties that need holdings and set at most one: what a duty asks, when that is met, what it sets.
--- Definitions only.
 use mathlib.Core.Bool.{Bool, true, false, _&&_, cond, Bool·beq}
 use mathlib.Core.Option.{Option, none, some}
 use mathlib.Core.List.{List, []}

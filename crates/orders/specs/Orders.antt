@@ -1,4 +1,4 @@
--- Orders, green and failing orders, over any kind of duty. Definitions only: document 01, section Orders.
+-- Orders, green and failing orders, over any kind of duty: document 01, section Orders.
 use mathlib.Core.Path.{_≡_}
 use mathlib.Core.Logic.{_≢_}
 use mathlib.Core.Bool.{Bool, true, false}

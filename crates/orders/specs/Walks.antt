@@ -1,5 +1,4 @@
 -- Doing duties one after the other: what may come next, what is left, and a walk through the pool.
--- Definitions only.
 use mathlib.Core.Path.{_≡_}
 use mathlib.Core.Logic.{_≢_, _⊎_}
 use mathlib.Core.Bool.{false, not}

@@ -1,6 +1,5 @@
 -- The duties in order of start: the same members, as many, and starts that rise. So they stand in an allowed
 -- order, since a duty that is wholly before another starts before it.
--- Assumes nothing.
 use mathlib.Core.Path.{_≡_, refl, _∙_, ap}
 use mathlib.Core.Logic.{_↔_}
 use mathlib.Core.Bool.{true}

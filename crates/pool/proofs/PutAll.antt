@@ -1,6 +1,5 @@
 -- The outer loop of `by_start`: one turn puts one duty more in order of start, and it stops at the count or,
 -- where the count is above the room, at the last place.
--- Assumes nothing.
 use mathlib.Core.Path.{_≡_, refl}
 use mathlib.Core.Logic.{_⊎_, inl, inr, ⊎-elim}
 use mathlib.Core.Bool.{true, false, _&&_}

@@ -1,6 +1,5 @@
 -- The inner loop of `by_start`, which puts one duty in: what a turn and the store at the end do to the duties
 -- below k, the duty held and the rest.
--- Assumes nothing.
 use mathlib.Core.Path.{_≡_, refl, sym, _∙_, ap}
 use mathlib.Core.List.{List, [], _∷_, _++_}
 use Prim.Native.Nat.{ℕ, suc, _+_, _≤_, _<_}

@@ -1,5 +1,5 @@
--- Duties in order of start, by putting them in one after the other. Definitions only; that the result has the
--- same members and rising starts is proved in proofs/Laws.antt.
+-- Duties in order of start, by putting them in one after the other. That the result has the same
+-- members and rising starts is proved in proofs/Laws.antt.
 use mathlib.Core.Bool.{cond}
 use mathlib.Core.List.{List, [], _∷_}
 use lib.Dec.{ltb}

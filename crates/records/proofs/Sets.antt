@@ -1,5 +1,5 @@
 -- A set of roles has no bit at or above the role count just if it is below two to that power: then nothing is
--- left of it once it is shifted by the count. Assumes nothing.
+-- left of it once it is shifted by the count.
 use mathlib.Core.Path.{_≡_, sym, _∙_}
 use mathlib.Core.Bool.{true}
 use Prim.Native.Nat.{ℕ, _/_, _^_, _≤_, _<_}
@@ -9,6 +9,7 @@ use native.Mathlib.Omega.{arith}
 use lib.Dec.{eqb, ltb}
 use lib.Pow.{pow-mono}
 use borrow.Author.Tests.{eq-eqb, ne-eqb, lt-ltb, le-ltb}
+use Rattle.roles.specs.Roles.{width}
 
 pub shifted-out : (set roles : ℕ) → eqb (set / 2 ^ roles) 0 ≡ ltb set (2 ^ roles)
 shifted-out set roles = elim (decLt set (2 ^ roles)) [ yes h ↦ inside h | no h ↦ outside h ]
@@ -25,5 +26,5 @@ shifted-out set roles = elim (decLt set (2 ^ roles)) [ yes h ↦ inside h | no h
             h (omega (arith, both .0 (omega arith)))
 
 -- a set of 32 bits is below every higher power
-pub all-below : (set roles : ℕ) → set < 2 ^ 32 → 32 ≤ roles → ltb set (2 ^ roles) ≡ true
+pub all-below : (set roles : ℕ) → set < 2 ^ width → width ≤ roles → ltb set (2 ^ roles) ≡ true
 all-below set roles f h = lt-ltb set (2 ^ roles) (omega (arith, pow-mono h))

@@ -1,5 +1,5 @@
 -- A board value is good just if its counts are in range and its four parts are good: the same tests, grouped
--- by part. (Holdings need not rise, so for them that test is always passed.) Assumes nothing.
+-- by part. (Holdings need not rise, so for them that test is always passed.)
 use mathlib.Core.Path.{_≡_, refl}
 use mathlib.Core.Bool.{true, _&&_}
 use mathlib.Core.List.{List, [], _∷_}

@@ -1,6 +1,5 @@
 -- The test of a board value part by part and place by place, as the code makes it. (What a good board value
 -- is stands in the crate board, specs/Good.antt; that both are the same is proved in proofs/Whole.antt.)
--- Definitions only.
 use mathlib.Core.Bool.{Bool, true, _&&_, _||_, cond}
 use mathlib.Core.List.{List}
 use Prim.Native.Nat.{ℕ}

@@ -26,7 +26,8 @@ pub fn counts_fit(counts: Counts, next: Serial) -> bool
     ((1 <= users) & (users <= Board::USERS))
         & (((1 <= roles) & (roles <= Board::ROLES))
             & ((permissions <= Board::PERMISSIONS)
-                & ((rules <= Board::RULES) & ((duties <= Board::DUTIES) & (1 <= next.0)))))
+                & ((rules <= Board::RULES)
+                    & ((duties <= Board::DUTIES) & ((1 <= next.0) & (next.0 <= Board::NEXT))))))
 }
 
 // ---- one record
@@ -35,7 +36,11 @@ pub fn counts_fit(counts: Counts, next: Serial) -> bool
 pub fn set_fits(set: u32, roles: u16) -> bool
     ensures { λ r. ⌜ r ≡ g.setFits roles set ⌝ }
 {
-    if roles < 32 { set >> roles == 0 } else { true }
+    if roles < roles::WIDTH {
+        set >> roles == 0
+    } else {
+        true
+    }
 }
 
 // Whether the action is one of a use, and the object is in range.

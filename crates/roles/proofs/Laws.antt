@@ -1,6 +1,6 @@
 -- What a set of roles holds once a role was put in or taken out: that role (or not), and of the others just
 -- those that it held before; and no role at or above a limit comes in. Bit by bit: of a union, a difference,
--- and of a number with one bit. Assumes nothing.
+-- and of a number with one bit.
 use mathlib.Core.Path.{_≡_, refl, ap, _∙_}
 use mathlib.Core.Bool.{Bool, true, false, cond}
 use Prim.Native.Nat.{ℕ, zero, suc, _+_, _-_, _*_, _/_, _%_, _^_, _≤_, _<_, max}
@@ -11,7 +11,7 @@ use lib.Bits.{bitOr, bitXor, differ, or-shr, xor-shr, or-step, xor-step, or-lt, 
 use lib.Dec.{eqb, ltb}
 use lib.Pow.{pow-lt, pow-mono, pow-add, shl-shr, shl-exact}
 use borrow.Author.Tests.{ne-eqb, lt-ltb}
-use Rattle.roles.specs.Roles.{inSet, withRole, withoutRole}
+use Rattle.roles.specs.Roles.{width, inSet, withRole, withoutRole}
 
 -- bit i of a number
 abbrev pub bit : ℕ → ℕ → ℕ
@@ -62,13 +62,13 @@ one-other r i n = elim (decLt i r) [ yes h ↦ lower h | no h ↦ higher h ]
         let z : 1 * 2 ^ r / 2 ^ i ≡ 0 = div-eq-of-lt (omega (arith, pow-lt l)) in omega (arith, z)
 
 -- the code's shifted 1 is that number
-pub shifted : (r : ℕ) → r < 32 → (1 * 2 ^ r) % 4294967296 ≡ 1 * 2 ^ r
-shifted r h = shl-exact {a = 1} 1 r 32 (omega arith) (omega arith)
+pub shifted : (r : ℕ) → r < width → (1 * 2 ^ r) % 4294967296 ≡ 1 * 2 ^ r
+shifted r h = shl-exact {a = 1} 1 r width (omega arith) (omega arith)
 
 -- ---- what a set holds
 
 -- no set of 32 bits has a role from 32 on
-pub beyond : (set role : ℕ) → set < 2 ^ 32 → 32 ≤ role → inSet set role ≡ false
+pub beyond : (set role : ℕ) → set < 2 ^ width → width ≤ role → inSet set role ≡ false
 beyond set role f k =
     let z : set / 2 ^ role ≡ 0 = div-eq-of-lt (omega (arith, pow-mono k)) in
     ne-eqb (bit set role) 1 (λ e. omega (arith, z))
@@ -94,23 +94,23 @@ either : (b : Bool) (x y q : ℕ) → bit x q ≡ bit y q → inSet (cond b x y)
 either true x y q e = ap (λ (k : ℕ). eqb k 1) e
 either false x y q e = refl
 
-pub with-same : (set role : ℕ) → role < 32 → inSet (withRole set role) role ≡ true
+pub with-same : (set role : ℕ) → role < width → inSet (withRole set role) role ≡ true
 unfolding withRole
-with-same set role h = rw (lt-ltb role 32 h, with-bit-same set role)
+with-same set role h = rw (lt-ltb role width h, with-bit-same set role)
 
 pub with-other : (set role q : ℕ) → (q ≡ role → ⊥) → inSet (withRole set role) q ≡ inSet set q
 unfolding withRole
-with-other set role q n = either (ltb role 32) (bitOr set (1 * 2 ^ role)) set q (with-bit-other set role q n)
+with-other set role q n = either (ltb role width) (bitOr set (1 * 2 ^ role)) set q (with-bit-other set role q n)
 
-pub without-same : (set role : ℕ) → role < 32 → inSet (withoutRole set role) role ≡ false
+pub without-same : (set role : ℕ) → role < width → inSet (withoutRole set role) role ≡ false
 unfolding withoutRole
-without-same set role h = rw (lt-ltb role 32 h, without-bit-same set role)
+without-same set role h = rw (lt-ltb role width h, without-bit-same set role)
 
 pub without-other : (set role q : ℕ) → (q ≡ role → ⊥) → inSet (withoutRole set role) q ≡ inSet set q
 unfolding withoutRole
 without-other set role q n =
     either
-    (ltb role 32)
+    (ltb role width)
     (bitXor (bitOr set (1 * 2 ^ role)) (1 * 2 ^ role))
     set
     q
@@ -131,13 +131,13 @@ module _ (roles set role : ℕ) (fits : set < 2 ^ roles) (h : role < roles) wher
 
   pub with-below : withRole set role < 2 ^ roles
   unfolding withRole
-  with-below = cond-below (ltb role 32) (bitOr set (1 * 2 ^ role)) set (2 ^ roles) or-below fits
+  with-below = cond-below (ltb role width) (bitOr set (1 * 2 ^ role)) set (2 ^ roles) or-below fits
 
   pub without-below : withoutRole set role < 2 ^ roles
   unfolding withoutRole
   without-below =
       cond-below
-      (ltb role 32)
+      (ltb role width)
       (bitXor (bitOr set (1 * 2 ^ role)) (1 * 2 ^ role))
       set
       (2 ^ roles)

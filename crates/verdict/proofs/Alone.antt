@@ -1,7 +1,7 @@
 -- `canBeMet` is part (a) of the criterion: false just where d has no permission or rule, or some holding that
 -- d needs is wrong now and no duty wholly before d sets it right. What is asked is taken apart need by need,
 -- each read in the most or the least that its user can hold. The role asked of the doer is to be below the
--- limit, as it is on a good board (asked-fits). Assumes nothing.
+-- limit, as it is on a good board (asked-fits).
 use mathlib.Core.Path.{_≡_, refl, sym, ap, ap₂, _∙_}
 use mathlib.Core.Bool.{Bool, true, false, not, _&&_, _||_, Bool·beq}
 use mathlib.Core.Option.{Option, none, some}
@@ -18,7 +18,7 @@ use Rattle.orders.proofs.Tests.{by-test, and-true}
 use Rattle.roles.specs.Roles.{inSet}
 use Rattle.acts.specs.Meets.{meetsSets}
 use Rattle.board.specs.declared.Asked.{Asked}
-use Rattle.board.specs.declared.Asked.the-variants.{Nothing, Role, Meets}
+use Rattle.board.specs.declared.Asked.the-variants.{Unruled, Role, Meets}
 use Rattle.board.specs.declared.Duty.{Duty}
 use Rattle.board.specs.declared.Permission.{Permission}
 use Rattle.board.specs.declared.Rule.{Rule}
@@ -106,7 +106,7 @@ aloneAt D s pool d =
 
 -- the role asked of the doer is below the limit
 abbrev pub DoerRoleFits : Asked → Type 0
-DoerRoleFits Nothing = Unit {0}
+DoerRoleFits Unruled = Unit {0}
 DoerRoleFits (Role role) = role < maxRoles
 DoerRoleFits (Meets target rule) = rule .actor < maxRoles
 
@@ -211,7 +211,7 @@ module _ (permissions : List Permission) (rules : List Rule) where
         (asked : Asked) → DoerRoleFits asked
         → canBeMet sets pool d asked
         ≡ not (not (ruled (needs (d .doer) asked)) || any stays (needed (needs (d .doer) asked)))
-    all-right Nothing h = refl
+    all-right Unruled h = refl
     all-right (Role role) h =
         sym (ap not (or-nothing (stays ((d .doer, role), true))) ∙ held-right (d .doer) role h)
     all-right (Meets target rule) h =

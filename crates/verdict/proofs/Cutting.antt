@@ -1,6 +1,6 @@
 -- What a walk writes is the theory's cut: while each duty so far was permitted, the sets of roles say who
 -- holds what as the world does, and the serials stand in the list one after the other; after the first duty
--- that is not permitted nothing changes. Assumes nothing.
+-- that is not permitted nothing changes.
 use mathlib.Core.Path.{_≡_, refl, sym, _∙_}
 use mathlib.Core.Bool.{Bool, true, false, not, cond}
 use mathlib.Core.List.{List, [], _∷_, _++_}

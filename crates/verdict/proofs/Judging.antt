@@ -1,7 +1,6 @@
 -- From what was found to the verdict. On a good board the duties in order of start are an order of the open
 -- duties. So where nothing is found, the criterion does not say red and the board is green; and where a duty
 -- gets stuck, the line of the two duties, cut after the first that is not permitted, is a failing order.
--- Assumes nothing.
 use mathlib.Core.Path.{_≡_, refl, sym, ap, _∙_}
 use mathlib.Core.Logic.{⊎-elim}
 use mathlib.Core.Bool.{Bool, true, false, not, _&&_}
@@ -40,7 +39,7 @@ use Rattle.board.proofs.GoodLaws.{RecordsInRange, good→counts, good→records
 use Rattle.board.proofs.PoolLaws.{duties-pool}
 use Rattle.pool.specs.ByStart.{byStart}
 use Rattle.pool.proofs.Laws.{by-start-length, by-start-order}
-use Rattle.verdict.specs.Checked.{Stuck}
+use Rattle.verdict.specs.Judging.{Stuck}
 use Rattle.verdict.specs.Tests.{canBeMet, harms}
 use Rattle.verdict.specs.Walking.{serials, lineCut, InRange, Written}
 use Rattle.verdict.proofs.Alone.{aloneAt, can-be-met-alone}

@@ -8,3 +8,4 @@ pub mod Cutting
 pub mod Judging
 pub mod Answered
 pub mod Settled
+pub mod Tick

@@ -1,6 +1,6 @@
 -- `most` and `least` go through a list of duties in turn, and each duty wholly before d may change the set.
 -- So one duty more makes one step more; and a role is wrong in the end just where it is wrong at the start
--- and no duty wholly before d sets it right. Assumes nothing.
+-- and no duty wholly before d sets it right.
 use mathlib.Core.Path.{_≡_, refl, sym, ap, _∙_}
 use mathlib.Core.Bool.{Bool, true, false, not, _&&_, _||_, cond, Bool·beq}
 use mathlib.Core.List.{List, [], _∷_, _++_}

@@ -1,6 +1,5 @@
 -- The first place whose member passes a test: none where no member passes, and place j where its member
 -- passes and none before it does. And a test passed among some first places is passed among more.
--- Assumes nothing.
 use mathlib.Core.Path.{_≡_, refl, ap, _∙_}
 use mathlib.Core.Bool.{Bool, true, false}
 use mathlib.Core.List.{List, [], _∷_}

@@ -1,15 +1,14 @@
--- What check promises settles its answer: two outcomes that keep the promise have one number, and where that
--- is not 8 they are one answer and leave the same list. Assumes nothing.
-use mathlib.Core.Path.{_≡_}
+-- What check promises settles its outcome: two that keep the promise have one number, and they are one answer and
+-- leave the same list, once the failing order is chosen.
+use mathlib.Core.Path.{_≡_, sym, _∙_}
 use mathlib.Core.List.{List}
 use Prim.Native.Nat.{ℕ}
 use lib.ListN.{length}
 use Rattle.board.specs.declared.Answer.{Answer}
 use Rattle.board.specs.declared.Board.{Board}
-use Rattle.board.specs.Numbers as no
 use Rattle.board.specs.View.{view}
 use Rattle.board.proofs.AnswersLaws.{same-answer}
-use Rattle.board.proofs.ToldLaws.{same-told}
+use Rattle.board.proofs.ToldLaws.{OneOrder, same-told}
 use Rattle.verdict.specs.Checked.{checkChecks, Checked}
 
 module _
@@ -20,6 +19,6 @@ module _
     same-number =
         same-answer (checkChecks b (length before)) (r .number) (r′ .number) (p .number) (q .number)
 
-    pub same-check : (r .number ≡ no.red → ⊥) → (r ≡ r′) × (after ≡ after′)
+    pub same-check : OneOrder (p .told) (q .told) → (r ≡ r′) × (after ≡ after′)
     same-check =
-        same-told (view b) before after after′ r r′ same-number (p .serial) (q .serial) (p .told) (q .told)
+        same-told (view b) before after after′ r r′ same-number (p .serial ∙ sym (q .serial)) (p .told) (q .told)

@@ -1,6 +1,6 @@
 -- `harms` is part (b) of the criterion: where x harms d, some holding that d needs is set wrong by x and
 -- mended by none; and where no duty of the pool harms d, none of its needs is made wrong. A grant or revoke
--- sets one holding: whether d needs the opposite of just that holding is what `harms` tests. Assumes nothing.
+-- sets one holding: whether d needs the opposite of just that holding is what `harms` tests.
 use mathlib.Core.Path.{_≡_, refl, sym, ap, _∙_, fun-ext}
 use mathlib.Core.Logic.{⊎-elim}
 use mathlib.Core.Bool.{Bool, true, false, not, _&&_, cond}
@@ -23,7 +23,7 @@ use Rattle.orders.proofs.Tests.{clash, is-false, or-true, or-right, and-true, a
 use Rattle.orders.proofs.Lists.{any-true, at-cons}
 use Rattle.roles.specs.Roles.{inSet}
 use Rattle.board.specs.declared.Asked.{Asked}
-use Rattle.board.specs.declared.Asked.the-variants.{Nothing, Role, Meets}
+use Rattle.board.specs.declared.Asked.the-variants.{Unruled, Role, Meets}
 use Rattle.board.specs.declared.Duty.{Duty}
 use Rattle.board.specs.declared.Permission.{Permission}
 use Rattle.board.specs.declared.Rule.{Rule}
@@ -64,8 +64,8 @@ each-in held target set user role h e =
 asks-needs :
     (doer : ℕ) (asked : Asked) (user role : ℕ) (held : Bool) → role < maxRoles
     → asksFor doer asked ((user, role), held) ≡ true → Mem ((user, role), held) (needed (needs doer asked))
-asks-needs doer Nothing user role true h e = clash e refl
-asks-needs doer Nothing user role false h e = clash e refl
+asks-needs doer Unruled user role true h e = clash e refl
+asks-needs doer Unruled user role false h e = clash e refl
 asks-needs doer (Role q) user role true h e = here (same-need user doer q role e)
 asks-needs doer (Role q) user role false h e = clash e refl
 asks-needs doer (Meets target rule) user role true h e =
@@ -97,7 +97,7 @@ each-of held target set n m =
 needs-asks :
     (doer : ℕ) (asked : Asked) (n : Holding × Bool) → Mem n (needed (needs doer asked))
     → asksFor doer asked n ≡ true
-needs-asks doer Nothing n m = elim m [ ]
+needs-asks doer Unruled n m = elim m [ ]
 needs-asks doer (Role q) n m = rw (List·Memᴰ·eq-of-singleton m, eq-eqb doer doer refl, eq-eqb q q refl)
 needs-asks doer (Meets target rule) n m =
     let wanted = each true target (rolesIn (rule .wanted)) in

@@ -1,6 +1,6 @@
 -- What makes a board red, found duty by duty: where no duty of the pool is in trouble, that is, each can be
 -- met and none is harmed, the criterion does not say red; and a duty that is in trouble gets stuck. The role
--- asked of a doer is to be below the limit, as it is on a good board. Assumes nothing.
+-- asked of a doer is to be below the limit, as it is on a good board.
 use mathlib.Core.Path.{_≡_, refl, sym, ap, ap₂, _∙_}
 use mathlib.Core.Logic.{inl, inr}
 use mathlib.Core.Bool.{Bool, true, false, not, _||_}
@@ -26,7 +26,7 @@ use Rattle.board.specs.View.{View, view}
 use Rattle.board.proofs.GoodLaws.{good→counts, good→records}
 use Rattle.verdict.specs.declared.Place.{Place}
 use Rattle.verdict.specs.declared.Place.the-variants.{At, Nowhere}
-use Rattle.verdict.specs.Checked.{Stuck}
+use Rattle.verdict.specs.Judging.{Stuck}
 use Rattle.verdict.specs.Tests.{canBeMet, harms, firstPlace}
 use Rattle.verdict.proofs.Alone.{aloneAt, DoerRoleFits, asked-fits, can-be-met-alone}
 use Rattle.verdict.proofs.Places.{none-found, found}

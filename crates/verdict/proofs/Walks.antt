@@ -1,6 +1,5 @@
 -- Walks through duties, part after part. What is left of the duties takes a walk to the same end as all of
 -- them do from the start; so a list with room for them all has room for those that are left.
--- Assumes nothing.
 use mathlib.Core.Path.{_≡_, refl, sym, _∙_}
 use mathlib.Core.Bool.{Bool, true, false}
 use mathlib.Core.List.{List, [], _∷_, _++_}

@@ -1,5 +1,5 @@
--- The quick test of one duty as the code makes it. Definitions only; that it is the criterion of crate orders
--- is proved in proofs/. `pool` is the list of open duties, `asked` what is asked for d.
+-- The quick test of one duty as the code makes it. That it is the criterion of crate orders is proved in
+-- proofs/. `pool` is the list of open duties, `asked` what is asked for d.
 use mathlib.Core.Bool.{Bool, false, not, _&&_, _||_, cond}
 use mathlib.Core.List.{List, [], _∷_}
 use Prim.Native.Nat.{ℕ, _+_}
@@ -9,7 +9,7 @@ use Rattle.orders.specs.Lists.{any}
 use Rattle.roles.specs.Roles.{inSet, withRole, withoutRole}
 use Rattle.acts.specs.Meets.{meetsSets}
 use Rattle.board.specs.declared.Asked.{Asked}
-use Rattle.board.specs.declared.Asked.the-variants.{Nothing, Role, Meets}
+use Rattle.board.specs.declared.Asked.the-variants.{Unruled, Role, Meets}
 use Rattle.board.specs.declared.Duty.{Duty}
 use Rattle.board.specs.declared.What.{What}
 use Rattle.board.specs.declared.What.the-variants.{Grant, Revoke, Use}
@@ -41,7 +41,7 @@ least d user set (g ∷ l) = least d user (cond (whollyBefore g d) (revoked user
 
 -- something is asked, and each need of d is right now or is set right by some duty wholly before d
 abbrev pub canBeMet : List ℕ → List Duty → Duty → Asked → Bool
-canBeMet sets pool d Nothing = false
+canBeMet sets pool d Unruled = false
 canBeMet sets pool d (Role role) = inSet (most d (d .doer) (getD sets (d .doer) 0) pool) role
 canBeMet sets pool d (Meets target rule) =
     inSet (most d (d .doer) (getD sets (d .doer) 0) pool) (rule .actor)
@@ -52,13 +52,13 @@ canBeMet sets pool d (Meets target rule) =
 
 -- it is asked that the user holds the role; that the user does not hold it
 abbrev pub needsHeld : ℕ → Asked → ℕ → ℕ → Bool
-needsHeld doer Nothing user role = false
+needsHeld doer Unruled user role = false
 needsHeld doer (Role r) user role = eqb user doer && eqb r role
 needsHeld doer (Meets target rule) user role =
     (eqb user doer && eqb (rule .actor) role) || (eqb user target && inSet (rule .wanted) role)
 
 abbrev pub needsFree : Asked → ℕ → ℕ → Bool
-needsFree Nothing user role = false
+needsFree Unruled user role = false
 needsFree (Role r) user role = false
 needsFree (Meets target rule) user role = eqb user target && inSet (rule .barred) role
 

@@ -1,5 +1,5 @@
--- Doing duties in turn until one is not permitted, and writing their serials. Definitions only; that what is
--- written is the line cut after that duty is proved in proofs/Cutting.antt.
+-- Doing duties in turn until one is not permitted, and writing their serials. That what is written is the
+-- line cut after that duty is proved in proofs/Cutting.antt.
 use mathlib.Core.Path.{_≡_}
 use mathlib.Core.Bool.{Bool, true, not, _&&_, _||_, cond}
 use mathlib.Core.List.{List, [], _∷_, _++_, map}

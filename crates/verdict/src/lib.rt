@@ -17,7 +17,8 @@ ghost use Rattle.orders.specs.Lists.{keep};
 ghost use Rattle.board.specs.Good.{good};
 ghost use Rattle.board.specs.Limits.{maxDuties};
 ghost use Rattle.board.specs.View.{view};
-ghost use Rattle.verdict.specs.Checked.{Troubled, Judged, Checked};
+ghost use Rattle.verdict.specs.Checked.{Checked};
+ghost use Rattle.verdict.specs.Judging.{Troubled, Judged};
 ghost use Rattle.verdict.specs.Tests.{granted, revoked, most, least, canBeMet};
 ghost use Rattle.verdict.specs.Tests.{needsHeld, needsFree, needsOpposite};
 ghost use Rattle.verdict.specs.Tests.{undoes, opposes, heals, harms, firstPlace};
@@ -114,7 +115,7 @@ fn can_be_met(
     ensures { λ r. ⌜ r ≡ canBeMet (now (holdings .entry)) (take n pool) d asked ⌝ }
 {
     match asked {
-        Asked::Nothing => false,
+        Asked::Unruled => false,
         Asked::Role(role) => {
             let own = reach_of(pool, n, d, d.doer, acts::held_by(holdings, d.doer));
             roles::holds(own.most, role)
@@ -136,7 +137,7 @@ fn needs_held(doer: u16, asked: Asked, user: u16, role: u16) -> bool
     ensures { λ r. ⌜ r ≡ needsHeld doer asked user role ⌝ }
 {
     match asked {
-        Asked::Nothing => false,
+        Asked::Unruled => false,
         Asked::Role(r) => (user == doer) & (r == role),
         Asked::Meets { target, rule } => {
             ((user == doer) & (rule.actor == role))
@@ -150,7 +151,7 @@ fn needs_free(asked: Asked, user: u16, role: u16) -> bool
     ensures { λ r. ⌜ r ≡ needsFree asked user role ⌝ }
 {
     match asked {
-        Asked::Nothing => false,
+        Asked::Unruled => false,
         Asked::Role(_) => false,
         Asked::Meets { target, rule } => (user == target) & roles::holds(rule.barred, role),
     }

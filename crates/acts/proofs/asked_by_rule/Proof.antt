@@ -1,5 +1,5 @@
 -- `acts::asked_by_rule` meets its contract. The loop's invariant: what is left of the rules finds what all of
--- them find. Assumes nothing.
+-- them find.
 use mathlib.Core.Path.{_≡_, sym, ap, _∙_}
 use Prim.Native.Nat.{_≤_, _-_, min}
 use borrow.Author.Needs.{needs}
@@ -35,14 +35,14 @@ mul-r c = search needs
 element-copy-out-r : tie.Need-element-copy-out-r Inv-loop μ-loop
 element-copy-out-r c = search needs
 
-governs-it-requires : tie.Need-governs-it-requires Inv-loop μ-loop
-governs-it-requires c κs = search needs
+governs-requires : tie.Need-governs-requires Inv-loop μ-loop
+governs-requires c κs = search needs
 
 returns : tie.Need-returns Inv-loop μ-loop
 returns c =
     let turn = c .before .before .before in
     let at = turn .before in
-    let passes = sym (c .before .governs-it .ensures) ∙ c .if1 .taken in
+    let passes = sym (c .before .governs .ensures) ∙ c .if1 .taken in
     let found = hit (at .loop .inv .1) (bound (at .before)) _ (turn .loop-test .taken) passes in
     sym (ap (byRule (at .before .before .args .target)) found)
 
@@ -56,7 +56,7 @@ loop-again : tie.Need-loop-again Inv-loop μ-loop
 loop-again c =
     let turn = c .before .before .before in
     let at = turn .before in
-    let fails = sym (c .before .governs-it .ensures) ∙ c .if1 .left in
+    let fails = sym (c .before .governs .ensures) ∙ c .if1 .left in
     (search needs, skip (at .loop .inv .1) (bound (at .before)) _ (turn .loop-test .taken) fails)
 
 returns-2 : tie.Need-returns-2 Inv-loop μ-loop
@@ -75,7 +75,7 @@ asked-by-rule-spec =
     loop-holds
     mul-r
     element-copy-out-r
-    governs-it-requires
+    governs-requires
     returns
     add-i
     loop-less

@@ -1,5 +1,5 @@
 -- `acts::asked_by_use` meets its contract. The loop's invariant: what is left of the permissions finds what
--- all of them find. Assumes nothing.
+-- all of them find.
 use mathlib.Core.Path.{_≡_, sym, ap, _∙_}
 use Prim.Native.Nat.{_≤_, _-_, min}
 use borrow.Author.Needs.{needs}

@@ -1,4 +1,4 @@
--- `acts::asked_for` meets its contract: each kind is handed on to the scan of its table. Assumes nothing.
+-- `acts::asked_for` meets its contract: each kind is handed on to the scan of its table.
 use borrow.Author.Needs.{needs}
 use Rattle.acts.proofs.asked_for.Statement.{statement}
 use Rattle.acts.proofs.asked_for.Tie as tie

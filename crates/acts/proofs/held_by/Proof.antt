@@ -1,5 +1,4 @@
 -- `acts::held_by` meets its contract: past the end of the table nothing stands, which reads as the empty set.
--- Assumes nothing.
 use mathlib.Core.Path.{sym}
 use borrow.Author.Needs.{needs}
 use lib.ListN.{List·getD-eq-default}

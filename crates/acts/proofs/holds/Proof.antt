@@ -1,4 +1,4 @@
--- `acts::holds` meets its contract: the role is looked up in the set that the user holds. Assumes nothing.
+-- `acts::holds` meets its contract: the role is looked up in the set that the user holds.
 use mathlib.Core.Path.{ap, _∙_}
 use borrow.Author.Needs.{needs}
 use Prim.Native.Nat.{ℕ}

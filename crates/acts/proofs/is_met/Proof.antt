@@ -1,4 +1,4 @@
--- `acts::is_met` meets its contract: what meets a role's need and a rule's needs is a law. Assumes nothing.
+-- `acts::is_met` meets its contract: what meets a role's need and a rule's needs is a law.
 use mathlib.Core.Path.{sym, ap, ap₂, _∙_}
 use mathlib.Core.Bool.{Bool, _&&_}
 use Prim.Native.Nat.{ℕ}

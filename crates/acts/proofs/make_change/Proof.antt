@@ -1,5 +1,4 @@
 -- `acts::make_change` meets its contract: the target's set is put back with the role, or without it.
--- Assumes nothing.
 use mathlib.Core.Path.{ap, _∙_}
 use Prim.Native.Nat.{ℕ}
 use lib.ListN.{set}

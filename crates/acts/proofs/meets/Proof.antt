@@ -1,5 +1,5 @@
 -- `acts::meets` meets its contract. The loop's invariant: no role below the one at hand is wanted and
--- missing, or barred and held. Assumes nothing.
+-- missing, or barred and held.
 use mathlib.Core.Path.{_≡_, sym, _∙_}
 use mathlib.Core.Bool.{false}
 use Prim.Native.Nat.{ℕ, _≤_, _<_, _-_}

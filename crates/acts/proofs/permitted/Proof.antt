@@ -1,4 +1,4 @@
--- `acts::permitted` meets its contract: what is asked is found, and tested. Assumes nothing.
+-- `acts::permitted` meets its contract: what is asked is found, and tested.
 use mathlib.Core.Path.{ap, _∙_}
 use Rattle.orders.specs.Needs.{met}
 use Rattle.board.specs.declared.Asked.{Asked}

@@ -1,4 +1,4 @@
--- `acts::put_set` meets its contract: past the end of the table nothing is set. Assumes nothing.
+-- `acts::put_set` meets its contract: past the end of the table nothing is set.
 use mathlib.Core.Path.{sym}
 use borrow.Author.Needs.{needs}
 use lib.Seq.{set-out}

@@ -1,12 +1,11 @@
 -- `calls::open` meets its contract: each answer is one of the four of proofs/Opening.antt.
--- Assumes nothing.
 use mathlib.Core.Path.{_≡_}
 use Prim.Native.Nat.{_≤_}
 use lib.ListN.{length}
 use borrow.Author.Needs.{needs}
 use Rattle.board.specs.Answers.{Answers}
 use Rattle.board.specs.Limits.{maxDuties}
-use Rattle.board.specs.Numbers as no
+use Rattle.board.specs.Numbers as answer
 use Rattle.file.specs.Reads.{readChecks, boardOf}
 use Rattle.calls.proofs.Opening.{short, not-read, opened-red, opened-green}
 use Rattle.calls.proofs.open.Statement.{statement}
@@ -20,7 +19,7 @@ room c = c .before .before .before .if1 .left
 
 accepted :
     (c : tie.Else2) → let start = c .before .before .before .before .before .before in
-    Answers (readChecks (start .args .s .now)) no.done
+    Answers (readChecks (start .args .s .now)) answer.done
 accepted c = rw (c .if2 .left) at (c .before .before .read .ensures .number)
 
 is-said :

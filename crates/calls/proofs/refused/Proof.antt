@@ -1,5 +1,4 @@
 -- `calls::refused` meets its contract: it is made of the plain answer and the smallest board.
--- Assumes nothing.
 use borrow.Author.Needs.{needs}
 use Rattle.calls.proofs.refused.Statement.{statement}
 use Rattle.calls.proofs.refused.Tie as tie

@@ -1,5 +1,5 @@
 -- `file::board_of` meets its contract: each part of the board is what its loop read, and fits in its room
--- since the counts fit. Assumes nothing.
+-- since the counts fit.
 use mathlib.Core.Path.{_∙_, ap}
 use native.Mathlib.Omega.{arith}
 use borrow.Author.Needs.{needs}

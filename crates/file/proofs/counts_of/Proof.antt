@@ -1,4 +1,4 @@
--- `file::counts_of` meets its contract: each count is read at its byte. Assumes nothing.
+-- `file::counts_of` meets its contract: each count is read at its byte.
 use borrow.Author.Needs.{needs}
 use Rattle.file.proofs.counts_of.Statement.{statement}
 use Rattle.file.proofs.counts_of.Tie as tie

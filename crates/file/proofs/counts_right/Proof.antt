@@ -1,4 +1,4 @@
--- `file::counts_right` meets its contract: it tests what it reads. Assumes nothing.
+-- `file::counts_right` meets its contract: it tests what it reads.
 use borrow.Author.Needs.{needs}
 use Rattle.file.proofs.counts_right.Statement.{statement}
 use Rattle.file.proofs.counts_right.Tie as tie

@@ -1,5 +1,5 @@
 -- `file::duties_of` meets its contract. The loop's invariant: the first i places hold the duties that
--- the bytes say, the rest of the room holds the filler. Assumes nothing.
+-- the bytes say, the rest of the room holds the filler.
 use mathlib.Core.Path.{ap}
 use Prim.Native.Nat.{_-_}
 use borrow.Author.Needs.{needs}

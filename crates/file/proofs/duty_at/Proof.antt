@@ -1,4 +1,4 @@
--- `file::duty_at` meets its contract: each field is read at its byte. Assumes nothing.
+-- `file::duty_at` meets its contract: each field is read at its byte.
 use borrow.Author.Needs.{needs}
 use Rattle.file.proofs.duty_at.Statement.{statement}
 use Rattle.file.proofs.duty_at.Tie as tie

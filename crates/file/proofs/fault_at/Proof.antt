@@ -1,5 +1,4 @@
 -- `file::fault_at` meets its contract: the part decides, and a record of a part ends before the file does.
--- Assumes nothing.
 use native.Mathlib.Omega.{arith}
 use borrow.Author.Tests.{eq-eqb, ne-eqb}
 use Rattle.file.proofs.fault_at.Statement.{statement}

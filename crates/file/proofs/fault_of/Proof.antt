@@ -1,4 +1,4 @@
--- `file::fault_of` meets its contract: the tests in their order. Assumes nothing.
+-- `file::fault_of` meets its contract: the tests in their order.
 use borrow.Author.Tests.{not-true, not-false}
 use Rattle.file.proofs.fault_of.Statement.{statement}
 use Rattle.file.proofs.fault_of.Tie as tie

@@ -1,5 +1,5 @@
 -- `file::first_fault` meets its contract. The loops' invariant: no fault among the parts so far, and none
--- among this part's records so far. So the fault with which the loops are left is the first. Assumes nothing.
+-- among this part's records so far. So the fault with which the loops are left is the first.
 use mathlib.Core.Path.{_≡_, refl, sym, _∙_, ap}
 use mathlib.Core.List.{List}
 use Prim.Native.Nat.{ℕ, _≤_, _<_, _-_}

@@ -1,4 +1,4 @@
--- `file::header_answer` meets its contract: the checks in their order. Assumes nothing.
+-- `file::header_answer` meets its contract: the checks in their order.
 use mathlib.Core.Path.{_≡_, refl, sym, _∙_}
 use mathlib.Core.Logic.{inl, inr}
 use mathlib.Core.Bool.{Bool, true, false, not}
@@ -9,7 +9,7 @@ use borrow.Author.Tests.{not-true, not-false}
 use Rattle.orders.proofs.Tests.{clash}
 use Rattle.board.specs.Answers.{Check, check, Answers}
 use Rattle.board.specs.Good.{countsFit}
-use Rattle.board.specs.Numbers as no
+use Rattle.board.specs.Numbers as answer
 use Rattle.file.specs.Bytes.{four}
 use Rattle.file.specs.Layout.{countsOf, nextOf, longest, laidOut}
 use Rattle.file.specs.Reads.{headerChecks}
@@ -25,13 +25,13 @@ passed {result} e n f = clash (sym e ∙ not-false result n) f
 
 -- the checks from one on
 abbrev fromLong : List ℕ → List Check
-fromLong s = check no.long (longest < four s 36) ∷ []
+fromLong s = check answer.long (longest < four s 36) ∷ []
 
 abbrev fromLayout : List ℕ → List Check
-fromLayout s = check no.layout (laidOut s ≡ false) ∷ fromLong s
+fromLayout s = check answer.layout (laidOut s ≡ false) ∷ fromLong s
 
 abbrev fromCount : List ℕ → List Check
-fromCount s = check no.count (countsFit (countsOf s) (nextOf s) ≡ false) ∷ fromLayout s
+fromCount s = check answer.count (countsFit (countsOf s) (nextOf s) ≡ false) ∷ fromLayout s
 
 abbrev bytes : tie.Else2 → List ℕ
 bytes c = c .before .before .before .before .args .s .now

@@ -1,4 +1,4 @@
--- `file::holding_fault` meets its contract: a holding has no window and need not rise. Assumes nothing.
+-- `file::holding_fault` meets its contract: a holding has no window and need not rise.
 use borrow.Author.Needs.{needs}
 use Rattle.file.proofs.holding_fault.Statement.{statement}
 use Rattle.file.proofs.holding_fault.Tie as tie

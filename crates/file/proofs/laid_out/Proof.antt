@@ -1,4 +1,4 @@
--- `file::laid_out` meets its contract: each offset and the total are compared. Assumes nothing.
+-- `file::laid_out` meets its contract: each offset and the total are compared.
 use borrow.Author.Needs.{needs}
 use Rattle.file.proofs.laid_out.Statement.{statement}
 use Rattle.file.proofs.laid_out.Tie as tie

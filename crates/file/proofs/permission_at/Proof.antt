@@ -1,4 +1,4 @@
--- `file::permission_at` meets its contract: each field is read at its byte. Assumes nothing.
+-- `file::permission_at` meets its contract: each field is read at its byte.
 use borrow.Author.Needs.{needs}
 use Rattle.file.proofs.permission_at.Statement.{statement}
 use Rattle.file.proofs.permission_at.Tie as tie

@@ -1,4 +1,4 @@
--- `file::permission_fault` meets its contract: only the first record has none before it. Assumes nothing.
+-- `file::permission_fault` meets its contract: only the first record has none before it.
 use borrow.Author.Tests.{eq-eqb, ne-eqb}
 use borrow.Author.Needs.{needs}
 use Rattle.file.proofs.permission_fault.Statement.{statement}

@@ -1,5 +1,5 @@
 -- `file::permissions_of` meets its contract. The loop's invariant: the first i places hold the permissions
--- that the bytes say, the rest of the room holds the filler. Assumes nothing.
+-- that the bytes say, the rest of the room holds the filler.
 use mathlib.Core.Path.{ap}
 use Prim.Native.Nat.{_-_}
 use borrow.Author.Needs.{needs}

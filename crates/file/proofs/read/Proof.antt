@@ -1,5 +1,4 @@
 -- `file::read` meets its contract: the header's checks answer first, and where they pass the records' do.
--- Assumes nothing.
 use mathlib.Core.Path.{_≡_, refl}
 use mathlib.Core.List.{List}
 use Prim.Native.Nat.{ℕ}

@@ -1,4 +1,4 @@
--- `file::rule_at` meets its contract: each field is read at its byte. Assumes nothing.
+-- `file::rule_at` meets its contract: each field is read at its byte.
 use borrow.Author.Needs.{needs}
 use Rattle.file.proofs.rule_at.Statement.{statement}
 use Rattle.file.proofs.rule_at.Tie as tie

@@ -1,4 +1,4 @@
--- `file::rule_fault` meets its contract: only the first record has none before it. Assumes nothing.
+-- `file::rule_fault` meets its contract: only the first record has none before it.
 use borrow.Author.Tests.{eq-eqb, ne-eqb}
 use borrow.Author.Needs.{needs}
 use Rattle.file.proofs.rule_fault.Statement.{statement}

@@ -1,4 +1,4 @@
--- `file::second_fits` meets its contract: action and second are read at their bytes. Assumes nothing.
+-- `file::second_fits` meets its contract: action and second are read at their bytes.
 use borrow.Author.Needs.{needs}
 use Rattle.file.proofs.second_fits.Statement.{statement}
 use Rattle.file.proofs.second_fits.Tie as tie

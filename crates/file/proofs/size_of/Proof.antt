@@ -1,4 +1,4 @@
--- `file::size_of` meets its contract: the part decides. Assumes nothing.
+-- `file::size_of` meets its contract: the part decides.
 use borrow.Author.Tests.{eq-eqb, ne-eqb}
 use borrow.Author.Needs.{needs}
 use Rattle.file.proofs.size_of.Statement.{statement}

@@ -1,4 +1,4 @@
--- `file::what_of` meets its contract: the action decides. Assumes nothing.
+-- `file::what_of` meets its contract: the action decides.
 use borrow.Author.Tests.{eq-eqb, ne-eqb}
 use Rattle.file.proofs.what_of.Statement.{statement}
 use Rattle.file.proofs.what_of.Tie as tie

@@ -1,5 +1,5 @@
 -- Word, number, numbers of the list and newline are put one after the other, and each has room: a word takes
--- at most 7 bytes, and a number with its space at most 21. Assumes nothing.
+-- at most 7 bytes, and a number with its space at most 21.
 use mathlib.Core.List.{[], _∷_, append-nil}
 use native.Mathlib.Omega.{arith}
 use borrow.Author.Needs.{needs}

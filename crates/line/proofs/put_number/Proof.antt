@@ -1,5 +1,4 @@
 -- The digits are spelt in a text of their own, then a space is put, and the digits after it.
--- Assumes nothing.
 use mathlib.Core.List.{append-nil}
 use borrow.Author.Needs.{needs}
 use Rattle.line.proofs.PutLaws.{put-then}

@@ -1,5 +1,4 @@
 -- The loop's invariant: the numbers passed are put at the place, and `here` is the place after them.
--- Assumes nothing.
 use mathlib.Core.Path.{_≡_}
 use Prim.Native.Nat.{_-_, _≤_, _<_}
 use native.Mathlib.Omega.{arith}

@@ -1,7 +1,6 @@
 -- The digits are written from the last to the first. The loop's invariant: the digits of what is left of the
 -- number and then those that stand in the text are the digits of the number, and what is left has room before
 -- them.
--- Assumes nothing.
 use mathlib.Core.Path.{_≡_, sym, _∙_}
 use mathlib.Core.List.{_++_}
 use Prim.Native.Nat.{_-_, _^_, _≤_, _<_}

@@ -1,5 +1,4 @@
 -- One line for each of the three kinds of answer: done, red and refused.
--- Assumes nothing.
 use mathlib.Core.Path.{_≡_}
 use Prim.Native.Nat.{min}
 use lib.ListN.{take}

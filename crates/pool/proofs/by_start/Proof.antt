@@ -1,6 +1,5 @@
 -- `by_start` is right: after m turns the first m duties stand in order of start, and the rest is left. In a
 -- turn, what stands below k, and then what is held put in among those left, is always the whole.
--- Assumes nothing.
 use mathlib.Core.Path.{_≡_, _∙_}
 use mathlib.Core.Logic.{⊎-elim}
 use Prim.Native.Nat.{_-_, _≤_, _<_}

@@ -1,5 +1,5 @@
 -- `records::duties_good` meets its contract. The loop's invariant: what is left from place i on,
--- after the record before it, tells of the whole part. Assumes nothing.
+-- after the record before it, tells of the whole part.
 use Prim.Native.Nat.{_-_}
 use borrow.Author.Needs.{needs}
 use Rattle.board.specs.Limits.{maxDuties}

@@ -1,4 +1,4 @@
--- `records::duty_fits` meets its contract: each field is tested. Assumes nothing.
+-- `records::duty_fits` meets its contract: each field is tested.
 use borrow.Author.Needs.{needs}
 use Rattle.records.proofs.duty_fits.Statement.{statement}
 use Rattle.records.proofs.duty_fits.Tie as tie

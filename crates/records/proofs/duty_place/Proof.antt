@@ -1,4 +1,4 @@
--- `records::duty_place` meets its contract: the two branches are those of `place`. Assumes nothing.
+-- `records::duty_place` meets its contract: the two branches are those of `place`.
 use borrow.Author.Tests.{lt-ltb, le-ltb}
 use borrow.Author.Needs.{needs}
 use Rattle.records.proofs.duty_place.Statement.{statement}

@@ -1,5 +1,4 @@
 -- `records::holding_place` meets its contract: a holding need not be above the one before it.
--- Assumes nothing.
 use mathlib.Core.Path.{refl}
 use borrow.Author.Tests.{lt-ltb, le-ltb}
 use borrow.Author.Needs.{needs}

@@ -1,5 +1,5 @@
 -- `records::holdings_good` meets its contract. The loop's invariant: what is left from place i on,
--- after the record before it, tells of the whole part. Assumes nothing.
+-- after the record before it, tells of the whole part.
 use mathlib.Core.Path.{_≡_}
 use Prim.Native.Nat.{_+_, _-_}
 use native.Mathlib.Omega.{arith}

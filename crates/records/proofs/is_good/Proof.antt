@@ -1,5 +1,4 @@
 -- `records::is_good` meets its contract: the five tests together are that of the whole board value.
--- Assumes nothing.
 use borrow.Author.Needs.{needs}
 use Rattle.records.proofs.Whole.{by-parts}
 use Rattle.records.proofs.is_good.Statement.{statement}

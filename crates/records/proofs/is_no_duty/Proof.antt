@@ -1,4 +1,4 @@
--- `records::is_no_duty` meets its contract: each field is tested. Assumes nothing.
+-- `records::is_no_duty` meets its contract: each field is tested.
 use borrow.Author.Needs.{needs}
 use Rattle.records.proofs.is_no_duty.Statement.{statement}
 use Rattle.records.proofs.is_no_duty.Tie as tie

@@ -1,4 +1,4 @@
--- `records::is_no_what` meets its contract: only a grant can be filler. Assumes nothing.
+-- `records::is_no_what` meets its contract: only a grant can be filler.
 use mathlib.Core.Path.{sym, ap}
 use borrow.Author.Needs.{needs}
 use Rattle.board.specs.Good.{isNoWhat}

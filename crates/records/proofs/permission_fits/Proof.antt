@@ -1,4 +1,4 @@
--- `records::permission_fits` meets its contract: each field is tested. Assumes nothing.
+-- `records::permission_fits` meets its contract: each field is tested.
 use borrow.Author.Needs.{needs}
 use Rattle.records.proofs.permission_fits.Statement.{statement}
 use Rattle.records.proofs.permission_fits.Tie as tie

@@ -1,4 +1,4 @@
--- `records::permission_place` meets its contract: the two branches are those of `place`. Assumes nothing.
+-- `records::permission_place` meets its contract: the two branches are those of `place`.
 use borrow.Author.Tests.{lt-ltb, le-ltb}
 use borrow.Author.Needs.{needs}
 use Rattle.records.proofs.permission_place.Statement.{statement}

@@ -1,4 +1,4 @@
--- `records::rule_fits` meets its contract: each field is tested. Assumes nothing.
+-- `records::rule_fits` meets its contract: each field is tested.
 use borrow.Author.Needs.{needs}
 use Rattle.records.proofs.rule_fits.Statement.{statement}
 use Rattle.records.proofs.rule_fits.Tie as tie

@@ -1,4 +1,4 @@
--- `records::what_fits` meets its contract: by the variant. Assumes nothing.
+-- `records::what_fits` meets its contract: by the variant.
 use mathlib.Core.Path.{sym, _∙_, ap}
 use borrow.Author.Needs.{needs}
 use Rattle.board.specs.Good.{whatFits}

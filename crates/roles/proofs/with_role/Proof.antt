@@ -1,9 +1,9 @@
--- `roles::with_role` meets its contract: the shifted 1 is the number with the role's bit. Assumes nothing.
+-- `roles::with_role` meets its contract: the shifted 1 is the number with the role's bit.
 use Prim.Native.Nat.{_<_}
 use native.Mathlib.Omega.{arith}
 use borrow.Author.Needs.{needs}
 use borrow.Author.Tests.{lt-ltb, le-ltb}
-use Rattle.roles.specs.Roles.{withRole}
+use Rattle.roles.specs.Roles.{width, withRole}
 use Rattle.roles.proofs.Laws.{shifted}
 use Rattle.roles.proofs.with_role.Statement.{statement}
 use Rattle.roles.proofs.with_role.Tie as tie
@@ -15,12 +15,12 @@ returns : tie.Need-returns
 unfolding withRole
 returns c =
     let role = c .before .args .role in
-    let fits : role < 32 = omega arith in
-    rw (lt-ltb role 32 fits, shifted role fits)
+    let fits : role < width = omega arith in
+    rw (lt-ltb role width fits, shifted role fits)
 
 returns-2 : tie.Need-returns-2
 unfolding withRole
-returns-2 c = rw (le-ltb (c .before .args .role) 32 (omega arith))
+returns-2 c = rw (le-ltb (c .before .args .role) width (omega arith))
 
 pub with-role-spec : {M : Type 1} → statement M
 with-role-spec = tie.close (tie.spec shl-result returns returns-2)

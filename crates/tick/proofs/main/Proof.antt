@@ -1,4 +1,4 @@
--- `tick::main` is safe and ends: what is read and what is written lie within their rooms. Assumes nothing.
+-- `tick::main` is safe and ends: what is read and what is written lie within their rooms.
 use mathlib.Core.Path.{sym}
 use native.Mathlib.Omega.{arith}
 use lib.Seq.{length-take-le}

@@ -1,5 +1,4 @@
 -- `can_be_met` is right: each kind of what is asked is read in the most and the least that the user can hold.
--- Assumes nothing.
 use borrow.Author.Needs.{needs}
 use Rattle.verdict.proofs.can_be_met.Statement.{statement}
 use Rattle.verdict.proofs.can_be_met.Tie as tie

@@ -1,5 +1,4 @@
 -- `verdict::check` meets its contract: each answer is one of the four of proofs/Answered.antt.
--- Assumes nothing.
 use mathlib.Core.Path.{_≡_, sym, _∙_}
 use mathlib.Core.Bool.{true}
 use borrow.Author.Needs.{needs}

@@ -1,5 +1,5 @@
 -- `verdict::do_one` meets its contract: a stuck walk stays; else the serial is written, and `is_met` tells
--- whether the duty is permitted. Assumes nothing.
+-- whether the duty is permitted.
 use Prim.Native.Nat.{_<_}
 use lib.ListN.{length}
 use borrow.Author.Needs.{needs}

@@ -1,5 +1,5 @@
 -- `verdict::do_part` meets its contract. The loop's invariant: what is left of the pool takes the walk to the
--- same end as the whole pool does from the start. Assumes nothing.
+-- same end as the whole pool does from the start.
 use mathlib.Core.Path.{_≡_, sym, _∙_}
 use mathlib.Core.Logic.{⊎-elim}
 use Prim.Native.Nat.{_-_, _≤_}

@@ -1,4 +1,4 @@
--- `verdict::grants` meets its contract: only a grant undoes a revoke. Assumes nothing.
+-- `verdict::grants` meets its contract: only a grant undoes a revoke.
 use borrow.Author.Needs.{needs}
 use Rattle.verdict.proofs.grants.Statement.{statement}
 use Rattle.verdict.proofs.grants.Tie as tie

@@ -1,4 +1,4 @@
--- `verdict::heals_it` meets its contract: it makes the tests of `heals`. Assumes nothing.
+-- `verdict::heals_it` meets its contract: it makes the tests of `heals`.
 use borrow.Author.Needs.{needs}
 use Rattle.verdict.proofs.heals_it.Statement.{statement}
 use Rattle.verdict.proofs.heals_it.Tie as tie

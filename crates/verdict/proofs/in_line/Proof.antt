@@ -1,5 +1,4 @@
 -- `verdict::in_line` meets its contract: it is the test's own words, with a call for each `wholly before`.
--- Assumes nothing.
 use borrow.Author.Needs.{needs}
 use Rattle.verdict.proofs.in_line.Statement.{statement}
 use Rattle.verdict.proofs.in_line.Tie as tie

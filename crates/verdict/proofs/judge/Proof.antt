@@ -1,5 +1,5 @@
 -- `verdict::judge` meets its contract: where `trouble_of` finds nothing the board is green, and what it finds
--- makes the cut line that `write_order` writes a failing order. Assumes nothing.
+-- makes the cut line that `write_order` writes a failing order.
 use mathlib.Core.Path.{refl}
 use mathlib.Core.Logic.{inl, inr}
 use mathlib.Core.List.{List}
@@ -15,7 +15,7 @@ use Rattle.board.specs.Limits.{maxDuties}
 use Rattle.board.specs.View.{view}
 use Rattle.board.proofs.GoodLaws.{good→counts}
 use Rattle.board.proofs.Sized.{sized}
-use Rattle.verdict.specs.Checked.{Stuck}
+use Rattle.verdict.specs.Judging.{Stuck}
 use Rattle.verdict.proofs.Judging.{Fails, firsts, places, nothing-green, judged-red, written-told}
 use Rattle.verdict.proofs.judge.Statement.{statement}
 use Rattle.verdict.proofs.judge.Tie as tie

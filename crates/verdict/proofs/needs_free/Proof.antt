@@ -1,5 +1,4 @@
 -- `verdict::needs_free` meets its contract: only a rule names roles that are not to be held.
--- Assumes nothing.
 use borrow.Author.Needs.{needs}
 use Rattle.verdict.proofs.needs_free.Statement.{statement}
 use Rattle.verdict.proofs.needs_free.Tie as tie

@@ -1,5 +1,4 @@
 -- `verdict::needs_held` meets its contract: each kind of what is asked names the roles to be held.
--- Assumes nothing.
 use borrow.Author.Needs.{needs}
 use Rattle.verdict.proofs.needs_held.Statement.{statement}
 use Rattle.verdict.proofs.needs_held.Tie as tie

@@ -1,5 +1,5 @@
 -- `verdict::needs_opposite` meets its contract: the opposite of a grant is a free holding, and of a revoke a
--- held one. Assumes nothing.
+-- held one.
 use borrow.Author.Needs.{needs}
 use Rattle.verdict.proofs.needs_opposite.Statement.{statement}
 use Rattle.verdict.proofs.needs_opposite.Tie as tie

@@ -1,4 +1,4 @@
--- `verdict::opposes_it` meets its contract: it makes the tests of `opposes`. Assumes nothing.
+-- `verdict::opposes_it` meets its contract: it makes the tests of `opposes`.
 use borrow.Author.Needs.{needs}
 use Rattle.verdict.proofs.opposes_it.Statement.{statement}
 use Rattle.verdict.proofs.opposes_it.Tie as tie

@@ -1,5 +1,4 @@
 -- `reach_of` is right: `most` and `least` are always what the duties passed so far make of the set.
--- Assumes nothing.
 use mathlib.Core.Path.{_≡_, sym, _∙_}
 use mathlib.Core.Logic.{⊎-elim}
 use Prim.Native.Nat.{_≤_, _<_, _-_}

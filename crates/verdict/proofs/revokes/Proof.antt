@@ -1,4 +1,4 @@
--- `verdict::revokes` meets its contract: only a revoke undoes a grant. Assumes nothing.
+-- `verdict::revokes` meets its contract: only a revoke undoes a grant.
 use borrow.Author.Needs.{needs}
 use Rattle.verdict.proofs.revokes.Statement.{statement}
 use Rattle.verdict.proofs.revokes.Tie as tie

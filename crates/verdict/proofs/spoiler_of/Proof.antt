@@ -1,5 +1,5 @@
 -- `verdict::spoiler_of` meets its contract. The outer loop's invariant: none of the first j duties harms d.
--- The inner one's: `healed` says whether one of the first k duties heals what x sets. Assumes nothing.
+-- The inner one's: `healed` says whether one of the first k duties heals what x sets.
 use mathlib.Core.Path.{_≡_, refl, sym, ap, _∙_}
 use mathlib.Core.Logic.{_⊎_, inl, inr, ⊎-elim}
 use mathlib.Core.Bool.{Bool, true, false, not, _&&_}

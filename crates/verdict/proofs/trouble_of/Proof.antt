@@ -1,5 +1,4 @@
 -- `verdict::trouble_of` meets its contract. The loop's invariant: none of the first i duties is in trouble.
--- Assumes nothing.
 use mathlib.Core.Path.{_≡_, refl}
 use mathlib.Core.Bool.{false}
 use Prim.Native.Nat.{_≤_, _-_}

@@ -1,5 +1,4 @@
 -- `verdict::undoes_it` meets its contract: a revoke undoes a grant, a grant a revoke, and nothing a use.
--- Assumes nothing.
 use mathlib.Core.Path.{_≡_, refl}
 use mathlib.Core.Bool.{false}
 use Prim.Native.Nat.{ℕ}

@@ -1,5 +1,4 @@
 -- `with_granted` is right: a grant to the user adds its role, and anything else leaves the set.
--- Assumes nothing.
 use borrow.Author.Needs.{needs}
 use borrow.Author.Tests.{eq-eqb, ne-eqb}
 use Rattle.verdict.proofs.with_granted.Statement.{statement}

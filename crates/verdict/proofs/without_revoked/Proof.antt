@@ -1,5 +1,4 @@
 -- `without_revoked` is right: a revoke from the user takes its role out, and anything else leaves the set.
--- Assumes nothing.
 use borrow.Author.Needs.{needs}
 use borrow.Author.Tests.{eq-eqb, ne-eqb}
 use Rattle.verdict.proofs.without_revoked.Statement.{statement}

@@ -1,5 +1,5 @@
 -- `verdict::write_order` meets its contract: its four calls do the four parts of the line, and what a walk
--- writes of a line is the line cut after the first duty that is not permitted. Assumes nothing.
+-- writes of a line is the line cut after the first duty that is not permitted.
 use mathlib.Core.Bool.{Bool, true, false}
 use mathlib.Core.List.{List, [], _∷_, _++_}
 use Prim.Native.Nat.{ℕ}

@@ -1,5 +1,4 @@
 -- `Board::smallest` meets its contract: the three fillers are what their constructors ensure.
--- Assumes nothing.
 use borrow.Author.Needs.{needs}
 use Rattle.board.proofs.Board.smallest.Statement.{statement}
 use Rattle.board.proofs.Board.smallest.Tie as tie
