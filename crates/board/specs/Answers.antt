@@ -22,6 +22,10 @@ Answers (c ∷ cs) n = (c .applies × (n ≡ c .number)) ⊎ ((c .applies → �
 abbrev pub plainAnswer : ℕ → Answer
 plainAnswer number = record { number = number; serial = record { 0 = 0 }; length = 0 }
 
+-- done, with the serial of the duty that was admitted; 0 where none was
+abbrev pub doneAnswer : ℕ → Answer
+doneAnswer serial = record { number = answer.done; serial = record { 0 = serial }; length = 0 }
+
 -- red, with a failing order of this length
 abbrev pub redAnswer : ℕ → Answer
 redAnswer length = record { number = answer.red; serial = record { 0 = 0 }; length = length }

@@ -3,9 +3,15 @@ pub mod Filler
 pub mod View
 pub mod Good
 pub mod Permitted
+pub mod Windows
+pub mod Doing
 pub mod Green
 pub mod Sentences
 pub mod Cases
 pub mod Numbers
 pub mod Answers
 pub mod Told
+pub mod Saying
+pub mod After
+pub mod Called
+pub mod Open

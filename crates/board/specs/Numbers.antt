@@ -1,5 +1,4 @@
--- The answer numbers of document 01 that are given so far, stated once for the definitions. In code they are
--- the constants of Answer.
+-- The answer numbers of document 01, stated once for the definitions. In code they are the constants of Answer.
 use Prim.Native.Nat.{ℕ}
 
 abbrev pub done : ℕ
@@ -40,6 +39,38 @@ red = 8
 -- lent list of fewer than 128 serials
 abbrev pub list : ℕ
 list = 9
+
+-- clock below the board's clock
+abbrev pub clock : ℕ
+clock = 10
+
+-- a request field outside its range, or a use's second not 0
+abbrev pub request : ℕ
+request = 11
+
+-- no open duty with this serial
+abbrev pub notOpen : ℕ
+notOpen = 12
+
+-- clock outside the window
+abbrev pub outside : ℕ
+outside = 13
+
+-- an open duty is wholly before this one
+abbrev pub heldBack : ℕ
+heldBack = 14
+
+-- not permitted now
+abbrev pub notPermitted : ℕ
+notPermitted = 15
+
+-- 128 duties already open
+abbrev pub full : ℕ
+full = 16
+
+-- next serial is 4,294,967,295
+abbrev pub spent : ℕ
+spent = 17
 
 -- total above 6,952
 abbrev pub long : ℕ

@@ -1,7 +1,7 @@
 // The board: who holds which role, permissions, rules and duties, its limits, its filler and the smallest
 // board; and what a call answers.
 ghost use mathlib.Core.Path.{_≡_};
-ghost use Rattle.board.specs.Answers.{plainAnswer, redAnswer};
+ghost use Rattle.board.specs.Answers.{plainAnswer, doneAnswer, redAnswer};
 ghost use Rattle.board.specs.Filler.{noPermission, noRule, noDuty, smallestBoard};
 
 // A duty is called by its serial and never by its place in the pool.
@@ -189,6 +189,22 @@ impl Answer {
 
     pub const LIST: u8 = 9;
 
+    pub const CLOCK: u8 = 10;
+
+    pub const REQUEST: u8 = 11;
+
+    pub const NOT_OPEN: u8 = 12;
+
+    pub const OUTSIDE: u8 = 13;
+
+    pub const HELD_BACK: u8 = 14;
+
+    pub const NOT_PERMITTED: u8 = 15;
+
+    pub const FULL: u8 = 16;
+
+    pub const SPENT: u8 = 17;
+
     pub const LONG: u8 = 18;
 
     pub const BROKEN: u8 = 19;
@@ -200,6 +216,17 @@ impl Answer {
         let serial = Serial(0);
         Answer {
             number,
+            serial,
+            length: 0,
+        }
+    }
+
+    // Done, with the serial of the duty that was admitted; 0 where none was.
+    pub fn done(serial: Serial) -> Self
+        ensures { λ r. ⌜ r ≡ doneAnswer (serial .0) ⌝ }
+    {
+        Answer {
+            number: Answer::DONE,
             serial,
             length: 0,
         }

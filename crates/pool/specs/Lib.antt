@@ -1,1 +1,2 @@
 pub mod ByStart
+pub mod Found

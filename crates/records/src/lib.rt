@@ -8,6 +8,7 @@ use board::Rule;
 use board::Serial;
 use board::What;
 ghost use mathlib.Core.Path.{_≡_};
+ghost use Rattle.board.specs.Doing.{whatOf, secondFits};
 ghost use Rattle.board.specs.Good as g;
 ghost use Rattle.records.specs.Places.{place, holdingTests, permissionTests, ruleTests, dutyTests};
 ghost use Rattle.records.specs.Places.{holdingsGood, permissionsGood, rulesGood, dutiesGood};
@@ -121,6 +122,37 @@ pub fn duty_below(d: Duty, e: Duty) -> bool
     let lower = d.serial;
     let higher = e.serial;
     lower.0 < higher.0
+}
+
+// ---- what is to be done, told by numbers
+
+// What an action, a first and a second say is to be done.
+pub fn what_of(action: u16, first: u16, second: u16) -> What
+    ensures { λ r. ⌜ r ≡ whatOf action first second ⌝ }
+{
+    if action == 0 {
+        return What::Grant {
+            target: first,
+            role: second,
+        };
+    }
+    if action == 1 {
+        return What::Revoke {
+            target: first,
+            role: second,
+        };
+    }
+    What::Use {
+        action,
+        object: first,
+    }
+}
+
+// Whether the second number of a use is 0.
+pub fn second_fits(action: u16, second: u16) -> bool
+    ensures { λ r. ⌜ r ≡ secondFits action second ⌝ }
+{
+    ((action == 0) | (action == 1)) | (second == 0)
 }
 
 // ---- the filler

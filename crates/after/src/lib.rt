@@ -1,0 +1,40 @@
+// The board after an act, and after a duty is taken out: nothing else changes.
+use board::Board;
+use board::Counts;
+use board::Serial;
+use board::What;
+ghost use mathlib.Core.Path.{_≡_};
+ghost use Rattle.after.specs.Boards.{actedBoard, withdrawnBoard};
+
+// The board with the change made that this makes, at the clock.
+pub fn acted(b: Board, clock: u32, what: What) -> Board
+    ensures { λ r. ⌜ r ≡ actedBoard b clock what ⌝ }
+{
+    let mut holdings = b.holdings;
+    acts::make_change(&mut holdings, what);
+    Board {
+        clock,
+        holdings,
+        ..b
+    }
+}
+
+// The board without the duty with the serial, at the clock.
+pub fn withdrawn(b: Board, clock: u32, serial: Serial) -> Board
+    ensures { λ r. ⌜ r ≡ withdrawnBoard b clock (serial .0) ⌝ }
+{
+    let duties = b.duties;
+    let n = b.counts.duties as usize;
+    let rest = pool::without_serial(duties, n, serial);
+    let left = rest.duties;
+    let counts = Counts {
+        duties: rest.count,
+        ..b.counts
+    };
+    Board {
+        counts,
+        clock,
+        duties: left,
+        ..b
+    }
+}

@@ -1,0 +1,13 @@
+-- Windows and the clock: document 01, section Orders. Windows include both ends.
+use mathlib.Core.Bool.{Bool, _&&_}
+use Prim.Native.Nat.{ℕ}
+use lib.Dec.{leb, ltb}
+use Rattle.board.specs.declared.Duty.{Duty}
+
+-- the clock lies in the window
+abbrev pub inWindow : ℕ → Duty → Bool
+inWindow clock d = leb (d .start) clock && leb clock (d .end)
+
+-- the window is over: its end is below the clock
+abbrev pub isOver : ℕ → Duty → Bool
+isOver clock d = ltb (d .end) clock

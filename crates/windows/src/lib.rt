@@ -1,0 +1,19 @@
+// Windows and the clock. Windows include both ends.
+use board::Duty;
+ghost use mathlib.Core.Path.{_≡_};
+ghost use Rattle.board.specs.Permitted.{whollyBefore};
+ghost use Rattle.board.specs.Windows.{inWindow};
+
+// Whether a duty is wholly before another: its end is less than the other's start.
+pub fn wholly_before(b: Duty, c: Duty) -> bool
+    ensures { λ r. ⌜ r ≡ whollyBefore b c ⌝ }
+{
+    b.end < c.start
+}
+
+// Whether the clock lies in a duty's window.
+pub fn in_window(clock: u32, d: Duty) -> bool
+    ensures { λ r. ⌜ r ≡ inWindow clock d ⌝ }
+{
+    (d.start <= clock) & (clock <= d.end)
+}
