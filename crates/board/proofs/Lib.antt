@@ -1,6 +1,7 @@
 pub mod Sized
 pub mod GoodLaws
 pub mod ViewLaws
+pub mod SayingLaws
 pub mod RolesIn
 pub mod Sentences
 pub mod PoolLaws
