@@ -25,23 +25,23 @@ module _ (b : Board) (size : Sized b) (is-good : good b ≡ true) where
   pub same : b ≡ boardSaying (view b)
   same = sym (saying-view b size is-good)
 
-  same-permissions :
+  pub same-permissions :
       (b .counts .permissions ≡ length (view b .permissions))
       × (b .permissions ≡ padded noPermission maxPermissions (view b .permissions))
   unfolding boardSaying
   same-permissions = (ap (λ (c : Board). c .counts .permissions) same, ap (λ (c : Board). c .permissions) same)
 
-  same-rules :
+  pub same-rules :
       (b .counts .rules ≡ length (view b .rules)) × (b .rules ≡ padded noRule maxRules (view b .rules))
   unfolding boardSaying
   same-rules = (ap (λ (c : Board). c .counts .rules) same, ap (λ (c : Board). c .rules) same)
 
-  same-duties :
+  pub same-duties :
       (b .counts .duties ≡ length (view b .duties)) × (b .duties ≡ padded noDuty maxDuties (view b .duties))
   unfolding boardSaying
   same-duties = (ap (λ (c : Board). c .counts .duties) same, ap (λ (c : Board). c .duties) same)
 
-  same-holdings : b .holdings ≡ padded 0 maxUsers (view b .holdings)
+  pub same-holdings : b .holdings ≡ padded 0 maxUsers (view b .holdings)
   unfolding boardSaying
   same-holdings = ap (λ (c : Board). c .holdings) same
 

@@ -1,11 +1,11 @@
 -- A board value and what it says. Where what is to be said keeps the rules and has room, the board value that says it
 -- is good, and says it; and a good board value is the one that says what it says.
-use mathlib.Core.Path.{_≡_, refl, sym, ap, _∙_}
+use mathlib.Core.Path.{_≡_, refl, ap, _∙_}
 use mathlib.Core.Bool.{true}
-use mathlib.Core.List.{List, _++_}
-use Prim.Native.Nat.{ℕ, _-_, _≤_}
+use mathlib.Core.List.{List, [], _∷_, _++_}
+use Prim.Native.Nat.{ℕ, suc, _-_, _≤_, _<_}
 use native.Mathlib.Omega.{arith}
-use lib.ListN.{length, take, drop, replicate, length-append, length-replicate}
+use lib.ListN.{length, take, set, replicate, length-append, length-replicate}
 use lib.Seq.{length-take-le, take-at, drop-at}
 use Rattle.board.specs.declared.Board.{Board}
 use Rattle.board.specs.Filler.{noPermission, noRule, noDuty, Sized}
@@ -62,6 +62,22 @@ module _ {A : Type 0} (filler : A) (room : ℕ) (l : List A) where
 
   padded-beyond : (n : ℕ) → length l ≡ n → Beyond n room filler (padded filler room l)
   padded-beyond n e = drop-at l (replicate (room - length l) filler) n e ∙ rw e
+
+module _ {A : Type 0} (filler x : A) where
+  next-in :
+      (n : ℕ) (l : List A)
+      → set (l ++ replicate (suc n) filler) (length l) x ≡ (l ++ (x ∷ [])) ++ replicate n filler
+  next-in n [] = refl
+  next-in n (y ∷ l) = ap (λ (k : List A). y ∷ k) (next-in n l)
+
+  -- one record more, in the first place of the room that is left
+  pub padded-next :
+      (room : ℕ) (l : List A) → length l < room
+      → set (padded filler room l) (length l) x ≡ padded filler room (l ++ (x ∷ []))
+  padded-next room l h =
+      let longer = length-append l (x ∷ []) in
+      let left : room - length l ≡ suc (room - length (l ++ (x ∷ []))) = omega (arith, longer) in
+      rw left (next-in (room - length (l ++ (x ∷ []))) l)
 
 -- ---- the board value that says this
 
