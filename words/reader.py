@@ -4,7 +4,7 @@ import re
 from typing import NamedTuple
 
 from .board import (Board, DUTIES, Duty, GRANT, LAST_NEXT_SERIAL, LAST_SERIAL, PERMISSIONS, Permission, REVOKE,
-                    RULES, Rule, set_of)
+                    Rule, set_of)
 from .line import DIGITS, Refused, lines_of
 from .names import ACTION, KINDS, Names, OBJECT, PERSON, ROLE, fault_in_name, nearest_of
 from .times import time_of
@@ -79,7 +79,6 @@ class BoardReader:
         for line in lines:
             if line.words[0] not in NAMING:
                 self.reader_of(line)(line)
-                line.end()
         return NamedBoard(name, self.board(), self.names)
 
     def reader_of(self, line):
@@ -148,11 +147,13 @@ class BoardReader:
     def take_roles(self, line):
         """The roles up to `wants`, `bars` or the end of the line, at least one and none twice, as a set."""
         roles = []
-        while not roles or line.more() and line.next() not in ('wants', 'bars'):
+        while line.more() and line.next() not in ('wants', 'bars'):
             role = self.take(line, ROLE, 'a role')
             if role in roles:
                 line.refuse(f'{self.names.called(ROLE, role)} is there twice')
             roles.append(role)
+        if not roles:
+            line.refuse('a role is missing')
         return set_of(roles)
 
     # ---- the lines that use them
@@ -161,22 +162,26 @@ class BoardReader:
         line.refuse(f'it has to stand before the other lines; line {self.first_line.number} stands before it')
 
     def read_clock(self, line):
-        self.once(line, 'clock', 'the clock')
         self.clock = line.take_time('the time')
+        line.end()
+        self.once(line, 'clock', 'the clock')
 
     def read_next(self, line):
-        self.once(line, 'next', 'the next serial')
         self.next_serial = line.take_number('the next serial', 1, LAST_NEXT_SERIAL)
+        line.end()
+        self.once(line, 'next', 'the next serial')
 
     def read_holds(self, line):
         person = self.take(line, PERSON, 'the person')
-        self.once(line, ('holds', person), f'what {self.names.called(PERSON, person)} holds')
         self.holdings[person] = self.take_roles(line)
+        line.end()
+        self.once(line, ('holds', person), f'what {self.names.called(PERSON, person)} holds')
 
     def read_permission(self, line):
         role = self.take(line, ROLE, 'the role')
         action = self.take(line, ACTION, 'the action')
         thing = self.take(line, OBJECT, 'the object')
+        line.end()
         called = f'{self.names.called(ACTION, action)} on {self.names.called(OBJECT, thing)}'
         self.once(line, ('permission', action, thing), f'a permission for {called}')
         self.add(line, self.permissions, Permission(role, action, thing), PERMISSIONS)
@@ -194,7 +199,7 @@ class BoardReader:
             sets[word] = self.take_roles(line)
         self.once(line, (kind, role), f'the {kind} rule for {self.names.called(ROLE, role)}')
         number = GRANT if kind == 'assign' else REVOKE
-        self.add(line, self.rules, Rule(number, actor, role, 0, sets['wants'], sets['bars']), RULES)
+        self.rules.append(Rule(number, actor, role, 0, sets['wants'], sets['bars']))
 
     def read_duty(self, line):
         serial = self.take_serial(line)
@@ -202,6 +207,7 @@ class BoardReader:
         action, first, second = self.take_what(line)
         start = line.take_time('the start of the window')
         end = line.take_time('the end of the window')
+        line.end()
         if start > end:
             line.refuse(f'the window is turned round: it starts at {time_of(start)} and ends at {time_of(end)}')
         self.once(line, ('duty', serial), f'serial {serial}')
