@@ -40,9 +40,9 @@ class Build(FolderTest):
         self.write(f'{name}/on/{platform.machine()}/toolchain/lib/ld-linux-x86-64.so.2', LOADER, 0o755)
 
     def start(self, **environment):
-        return subprocess.Popen([self.path('repo/bin/tick')], env={**self.environment, **environment}, text=True,
-                                stdin=subprocess.DEVNULL, stdout=subprocess.PIPE, stderr=subprocess.PIPE,
-                                start_new_session=True)
+        return subprocess.Popen([self.path('repo/bin/tick')], env={**self.environment, **environment},
+                                text=True, stdin=subprocess.DEVNULL, stdout=subprocess.PIPE,
+                                stderr=subprocess.PIPE, start_new_session=True)
 
     def tick(self, cwd=None, **environment):
         return run([self.path('repo/bin/tick')], cwd=cwd, env={**self.environment, **environment})
@@ -61,7 +61,8 @@ class Build(FolderTest):
         self.ends(self.tick(), 0, 'yes 0\n', BUILDING)
         self.ends(self.tick(), 0, 'yes 0\n', '')
         self.assertEqual(self.builds(), 1)
-        self.assertEqual(read(self.path('notes')).decode(), os.path.realpath(self.path('repo')) + ' check tick\n')
+        self.assertEqual(read(self.path('notes')).decode(),
+                         os.path.realpath(self.path('repo')) + ' check tick\n')
 
     def test_the_log_is_in_a_file(self):
         self.tick()
@@ -165,11 +166,13 @@ class Build(FolderTest):
     def test_the_emulator_on_arm(self):
         self.write('kit/bin/uname', '#!/bin/sh\necho aarch64\n', 0o755)
         self.write('kit/on/aarch64/toolchain/lib/ld-linux-x86-64.so.2', LOADER, 0o755)
-        self.write('kit/on/aarch64/toolchain/bin/qemu-x86_64', '#!/bin/sh\necho emulated >&2\nexec "$@"\n', 0o755)
+        self.write('kit/on/aarch64/toolchain/bin/qemu-x86_64', '#!/bin/sh\necho emulated >&2\nexec "$@"\n',
+                   0o755)
         self.ends(self.tick(), 0, 'yes 0\n', BUILDING + 'emulated\n')
 
     def test_a_program_that_gives_no_verdict(self):
-        self.ends(self.tick(PROGRAM='exit 3'), 2, '', BUILDING + 'tick: the program gave no verdict (exit status 3)\n')
+        self.ends(self.tick(PROGRAM='exit 3'), 2, '',
+                  BUILDING + 'tick: the program gave no verdict (exit status 3)\n')
 
     def test_a_program_that_prints_something_else(self):
         self.ends(self.tick(PROGRAM='echo maybe'), 2, '',

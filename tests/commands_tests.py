@@ -9,23 +9,24 @@ from support import FolderTest, ROOT, command, pack, read, run, sample
 
 SATURDAY = '''{} is red: this order fails.
 
-  2  Ben  revoke bench from Mia      14:10 to 14:40
+* 2  Ben  revoke bench from Mia      14:10 to 14:40
   1  Mia  use calibrate on detector  14:00 to 15:00  <- NOT PERMITTED
 
-Read it from the top: the windows allow this order, each duty but the last is permitted when its turn
-comes, and then the last one is not.
-Duty 1 asks: Mia holds bench.
+Read it from the top: the windows allow this order, each duty but the last is permitted when
+its turn comes, and then the last one is not.
+Duty 1 asks: Mia holds bench. The duties marked * change that.
 '''
 SATURDAY_IN_NUMBERS = '''{} is red: this order fails.
 
-  2  person 1  revoke role 2 from person 2  14:10 to 14:40
+* 2  person 1  revoke role 2 from person 2  14:10 to 14:40
   1  person 2  use action 2 on object 0     14:00 to 15:00  <- NOT PERMITTED
 
-Read it from the top: the windows allow this order, each duty but the last is permitted when its turn
-comes, and then the last one is not.
-Duty 1 asks: person 2 holds role 2.
+Read it from the top: the windows allow this order, each duty but the last is permitted when
+its turn comes, and then the last one is not.
+Duty 1 asks: person 2 holds role 2. The duties marked * change that.
 '''
-GREEN = '{} is green: in every order that the windows allow, each of the 2 duties is permitted when its turn comes.\n'
+GREEN = ('{} is green: in every order that the windows allow, each of the 2 duties is permitted when its turn'
+         ' comes.\n')
 PEOPLE = 'people Ada Ben Mia\nroles leader helper bench\nholds Ada leader\n'
 
 
@@ -54,7 +55,8 @@ class Board(FolderTest):
 
     def test_relative_names(self):
         self.write('saturday.txt', read(sample('saturday.txt')))
-        self.ends(run([command('board'), 'saturday.txt'], cwd=self.folder), 0, 'saturday.board: 2 duties\n', '')
+        self.ends(run([command('board'), 'saturday.txt'], cwd=self.folder), 0, 'saturday.board: 2 duties\n',
+                  '')
         self.assertEqual(read(self.path('saturday.board')), read(sample('saturday.board')))
 
     def test_a_slip_in_one_board_writes_none(self):
@@ -73,7 +75,8 @@ class Board(FolderTest):
         ran = run([command('board'), self.write('a.txt', PEOPLE)], preexec_fn=no_file_may_grow)
         self.ends(ran, 2, '')
         self.assertIn('File too large', ran.stderr)
-        self.assertEqual((read(self.path('a.board')), sorted(os.listdir(self.folder))), (b'was', ['a.board', 'a.txt']))
+        self.assertEqual((read(self.path('a.board')), sorted(os.listdir(self.folder))),
+                         (b'was', ['a.board', 'a.txt']))
 
     def test_a_link_stays_a_link(self):
         self.write('real.board', 'was')
@@ -107,7 +110,8 @@ class Board(FolderTest):
         out = self.path('nowhere', 'a.board')
         ran = run([command('board'), sample('saturday.txt'), '-o', out])
         self.ends(ran, 2, '')
-        self.assertRegex(ran.stderr, r'\Aboard: .*nowhere/a\.board\.[0-9]+\.new: No such file or directory\n\Z')
+        self.assertRegex(ran.stderr,
+                         r'\Aboard: .*nowhere/a\.board\.[0-9]+\.new: No such file or directory\n\Z')
 
     def test_no_such_file(self):
         path = self.path('a.txt')
@@ -141,7 +145,8 @@ class Board(FolderTest):
 
     def test_words_of_a_spoilt_file(self):
         path = self.write('a.board', read(sample('case8.board'))[:-1])
-        self.ends(run([command('board'), '--words', path]), 2, '', f'{path}: refused 4: the parts or the length are'
+        self.ends(run([command('board'), '--words', path]), 2, '',
+                  f'{path}: refused 4: the parts or the length are'
                   ' not as the header says: the file is cut off or has something added (it has 145 bytes, its'
                   ' header says 146)\n')
 
@@ -157,12 +162,14 @@ class Board(FolderTest):
 
     def test_names_from_a_listing(self):
         path = self.write('a.txt', 'board case1\npeople A B\nroles r s\nboard case8\npeople C D\nroles t u\n')
-        self.assertIn('people C D', run([command('board'), '--words', sample('case8.board'), '--names', path]).stdout)
+        self.assertIn('people C D',
+                      run([command('board'), '--words', sample('case8.board'), '--names', path]).stdout)
         self.ends(run([command('board'), '--words', sample('case9.board'), '--names', path]), 2, '',
                   f'{path}: none of its 2 boards is called case9\n')
 
     def test_options_that_do_not_fit(self):
-        for options in (['--names', sample('saturday.txt'), sample('saturday.txt')], ['--word', sample('case8.board')],
+        for options in (['--names', sample('saturday.txt'), sample('saturday.txt')],
+                        ['--word', sample('case8.board')],
                         ['--words', sample('case8.board'), '-o', self.path('a.board')], []):
             ran = run([command('board'), *options])
             self.ends(ran, 2, '')
@@ -178,7 +185,8 @@ class Judge(FolderTest):
         self.ends(run([command('judge'), sample('saturday.txt')]), 1, SATURDAY.format('saturday'), '')
 
     def test_green_in_words(self):
-        self.ends(run([command('judge'), sample('saturday-mended.txt')]), 0, GREEN.format('saturday-mended'), '')
+        self.ends(run([command('judge'), sample('saturday-mended.txt')]), 0, GREEN.format('saturday-mended'),
+                  '')
 
     def test_red_board_file(self):
         path = sample('saturday.board')
@@ -186,23 +194,28 @@ class Judge(FolderTest):
 
     def test_red_board_file_with_names(self):
         path = sample('saturday.board')
-        self.ends(run([command('judge'), path, '--names', sample('saturday.txt')]), 1, SATURDAY.format(path), '')
+        self.ends(run([command('judge'), path, '--names', sample('saturday.txt')]), 1, SATURDAY.format(path),
+                  '')
 
     def test_green_board_file(self):
         path = sample('case2.board')
         self.ends(run([command('judge'), path]), 0, GREEN.format(path), '')
 
     def test_no_duty_and_one_duty(self):
-        self.ends(run([command('judge'), sample('case1.board')]), 0, f'{sample("case1.board")} is green: no duty is open.\n')
+        self.ends(run([command('judge'), sample('case1.board')]), 0,
+                  f'{sample("case1.board")} is green: no duty is open.\n')
         path = self.write('a.txt', PEOPLE + 'assign bench by leader\nduty Ada grant bench to Mia 1 2\n')
         self.ends(run([command('judge'), path]), 0,
-                  'a is green: in every order that the windows allow, the one duty is permitted when its turn comes.\n')
+                  'a is green: in every order that the windows allow, the one duty is permitted when its turn'
+                  ' comes.\n')
 
     def test_a_listing(self):
         ran = run([command('judge'), sample('boards.txt')])
         self.ends(ran, 1, err='')
         verdicts = [line.split(':')[0] for line in ran.stdout.splitlines() if line.startswith('case')]
-        self.assertEqual(verdicts, ['case1 is green', 'case2 is green', 'case3 is red', 'case4 is green', 'case5 is red',
+        self.assertEqual(verdicts,
+                         ['case1 is green', 'case2 is green', 'case3 is red', 'case4 is green',
+                          'case5 is red',
                                     'case6 is red', 'case6b is green', 'case7 is green', 'case8 is red',
                                     'case9 is green', 'case9b is red', 'case10 is red', 'case11 is red'])
 
@@ -223,7 +236,8 @@ class Judge(FolderTest):
 
     def test_asks_for_holdings(self):
         self.asks('assign bench by helper wants helper leader bars bench\nduty Ada grant bench to Mia 1 2\n',
-                  'Duty 1 asks: Ada holds helper; Mia holds leader; Mia holds helper; Mia does not hold bench.')
+                  'Duty 1 asks: Ada holds helper; Mia holds leader; Mia holds helper; Mia does not hold'
+                  ' bench. No duty above it changes that.')
 
     def refused(self, data, said):
         path = self.write('a.board', data)
@@ -237,7 +251,8 @@ class Judge(FolderTest):
                      ' (65 users: 1 to 64 are allowed)')
         self.refused(good[:16] + bytes(4) + good[20:], '3: a count or the next serial is outside its range'
                      ' (the next serial is 0)')
-        parts = '4: the parts or the length are not as the header says: the file is cut off or has something added'
+        parts = ('4: the parts or the length are not as the header says: the file is cut off or has something'
+                 ' added')
         self.refused(good[:20] + b'\x29' + good[21:], parts)
         self.refused(good + b'\n', parts + ' (it has 147 bytes, its header says 146)')
 
@@ -254,10 +269,13 @@ class Judge(FolderTest):
                 (([0], [], [], [(1, 0, 0, 0, 2, 5, 6)]), f'{out} (duty 1 of 1)'),
                 (([0], [], [], [(1, 0, 2, 0, 1, 5, 6)]), f'{out} (duty 1 of 1)'),
                 (([0], [], [], [(9, 0, 2, 0, 0, 5, 6)]), f'{out} (duty 1 of 1)'),
-                (([0], [permission, permission], [], []), '6: a record is not above the one before it (permission 2 of 2)'),
-                (([0], [], [(1, 0, 0, 0, 0, 0), rule], []), '6: a record is not above the one before it (rule 2 of 2)'),
+                (([0], [permission, permission], [], []),
+                 '6: a record is not above the one before it (permission 2 of 2)'),
+                (([0], [], [(1, 0, 0, 0, 0, 0), rule], []),
+                 '6: a record is not above the one before it (rule 2 of 2)'),
                 (([0], [], [], [duty, duty]), '6: a record is not above the one before it (duty 2 of 2)'),
-                (([0], [], [], [duty, (3, 0, 2, 0, 0, 6, 5)]), '7: a window starts after its end (duty 2 of 2, serial 3)')):
+                (([0], [], [], [duty, (3, 0, 2, 0, 0, 6, 5)]),
+                 '7: a window starts after its end (duty 2 of 2, serial 3)')):
             self.refused(pack(1, 2, 0, 9, *records), said)
 
     def test_a_slip(self):
@@ -285,7 +303,8 @@ class Judge(FolderTest):
             subprocess.run(['cp', '-r', os.path.join(ROOT, name), self.folder], check=True)
         for line in ('exit 2', 'echo maybe 2', 'true'):
             self.write('bin/tick', f'#!/bin/sh\n{line}\n')
-            self.ends(run([self.path('bin', 'judge'), sample('saturday.txt')]), 2, '', 'judge: tick gave no verdict\n')
+            self.ends(run([self.path('bin', 'judge'), sample('saturday.txt')]), 2, '',
+                      'judge: tick gave no verdict\n')
 
     def test_the_verdict_is_that_of_tick(self):
         for name in ('bin', 'words'):
@@ -357,7 +376,8 @@ class Tick(FolderTest):
         self.ends(run([command('tick')], stdin=folder), 2, '', 'tick: standard input is a folder\n')
 
     def test_closed_standard_input(self):
-        self.ends(run(['sh', '-c', 'exec "$0" <&-', command('tick')]), 2, '', 'tick: standard input is not there\n')
+        self.ends(run(['sh', '-c', 'exec "$0" <&-', command('tick')]), 2, '',
+                  'tick: standard input is not there\n')
 
     def test_an_unreadable_file(self):
         path = self.write('a', read(sample('case2.board')), 0o000)
@@ -407,7 +427,8 @@ class Tick(FolderTest):
 
     def test_from_the_path(self):
         path = os.path.join(ROOT, 'bin') + ':' + os.environ['PATH']
-        self.ends(run(['tick', sample('case8.board')], env={**os.environ, 'PATH': path}), 1, 'no 3 2 1 3\n', '')
+        self.ends(run(['tick', sample('case8.board')], env={**os.environ, 'PATH': path}), 1, 'no 3 2 1 3\n',
+                  '')
 
     def test_through_links(self):
         os.symlink(command('tick'), self.path('one'))
@@ -418,5 +439,6 @@ class Tick(FolderTest):
 
     def test_with_cdpath(self):
         os.mkdir(self.path('bin'))
-        self.ends(run(['bin/tick', 'samples/case8.board'], cwd=ROOT, env={**os.environ, 'CDPATH': self.folder}), 1,
+        self.ends(run(['bin/tick', 'samples/case8.board'], cwd=ROOT,
+                      env={**os.environ, 'CDPATH': self.folder}), 1,
                   'no 3 2 1 3\n', '')

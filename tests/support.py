@@ -1,4 +1,4 @@
-"""What the tests share: the commands, a folder of a test's own, and random board files packed apart from words/."""
+"""What the tests share: commands, a folder for each test, and random board files packed apart from words/."""
 import os
 import struct
 import subprocess
@@ -15,8 +15,8 @@ def command(name):
 
 def run(words, **options):
     """Runs a command; its output as text, unless the options say otherwise."""
-    options = {'stdin': subprocess.DEVNULL, 'stdout': subprocess.PIPE, 'stderr': subprocess.PIPE, 'text': True,
-               'timeout': 100, **options}
+    options = {'stdin': subprocess.DEVNULL, 'stdout': subprocess.PIPE, 'stderr': subprocess.PIPE,
+               'text': True, 'timeout': 100, **options}
     if 'input' in options:
         del options['stdin']
     return subprocess.run(words, check=False, **options)

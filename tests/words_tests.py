@@ -39,7 +39,8 @@ SLIPS = {
                          'duty: grants stands where grant, revoke or use is expected'),
     'second_holds_line': (NUMBERS, 'holds 0 1', f'holds: what person 0 holds {TWICE} 3'),
     'role_held_twice': (NUMBERS, 'holds 1 0 0', 'holds: role 0 is there twice'),
-    'second_board_of_a_name': ('board a\n' + NUMBERS, 'board a', 'board: a second board a; the first is in line 1'),
+    'second_board_of_a_name': ('board a\n' + NUMBERS, 'board a',
+                               'board: a second board a; the first is in line 1'),
     'unknown_person': (BEGIN, 'holds Mai bench', 'holds: there is no person Mai; the nearest name is Mia'),
     'unknown_role': (BEGIN, 'holds Mia Bench', 'holds: there is no role Bench; the nearest name is bench'),
     'unknown_action': (BEGIN, 'duty Mia use calibrat on detector 14:00 15:00',
@@ -55,10 +56,13 @@ SLIPS = {
     'object_out_of_range': (NUMBERS, 'permission 1 2 256', 'permission: object 256 is outside 0 to 255'),
     'huge_number': (NUMBERS, 'permission 1 2 ' + '9' * 5000,
                     'permission: object ' + '9' * 5000 + ' is outside 0 to 255'),
-    'zero_before_a_number': (NUMBERS, 'permission 1 02 0', 'permission: action 02: a number has no 0 before it'),
-    'hour_that_cannot_be': (BEGIN, 'duty Ada grant bench to Mia 14:00 24:00', 'duty: the end of the window: 24:00'
+    'zero_before_a_number': (NUMBERS, 'permission 1 02 0',
+                             'permission: action 02: a number has no 0 before it'),
+    'hour_that_cannot_be': (BEGIN, 'duty Ada grant bench to Mia 14:00 24:00',
+                            'duty: the end of the window: 24:00'
                             ' cannot be: hours go from 0 to 23 and minutes from 00 to 59'),
-    'minute_that_cannot_be': (BEGIN, 'duty Ada grant bench to Mia 14:60 15:00', 'duty: the start of the window: 14:60'
+    'minute_that_cannot_be': (BEGIN, 'duty Ada grant bench to Mia 14:60 15:00',
+                              'duty: the start of the window: 14:60'
                               ' cannot be: hours go from 0 to 23 and minutes from 00 to 59'),
     'time_with_one_digit': (BEGIN, 'duty Ada grant bench to Mia 14:0 15:00',
                             f'duty: the start of the window: 14:0 {NO_TIME}'),
@@ -74,25 +78,29 @@ SLIPS = {
     'minutes_too_late': (BEGIN, 'clock 4294967296',
                          'clock: the time: 4294967296 is after the last minute, 4294967295 (2982616+4:15)'),
     'window_turned_round': (BEGIN, 'duty Ada grant bench to Mia 15:00 14:00',
-                            'duty: the window is turned round: it starts at 15:00 and ends at 14:00'),
+                            'duty: the window is turned round: 15:00 is after 14:00'),
     'start_left_out': (BEGIN, 'duty Ada grant bench to Mia', 'duty: the start of the window is missing'),
     'target_left_out': (BEGIN, 'duty Ada grant bench to', 'duty: the target is missing'),
     'to_left_out': (BEGIN, 'duty Ada grant bench Mia 14:00 15:00', 'duty: Mia stands where to is expected'),
-    'from_for_to': (BEGIN, 'duty Ada grant bench from Mia 14:00 15:00', 'duty: from stands where to is expected'),
-    'to_for_from': (BEGIN, 'duty Ada revoke bench to Mia 14:00 15:00', 'duty: to stands where from is expected'),
-    'on_left_out': (BEGIN, 'duty Mia use calibrate detector 14:00 15:00', 'duty: detector stands where on is expected'),
+    'from_for_to': (BEGIN, 'duty Ada grant bench from Mia 14:00 15:00',
+                    'duty: from stands where to is expected'),
+    'to_for_from': (BEGIN, 'duty Ada revoke bench to Mia 14:00 15:00',
+                    'duty: to stands where from is expected'),
+    'on_left_out': (BEGIN, 'duty Mia use calibrate detector 14:00 15:00',
+                    'duty: detector stands where on is expected'),
     'use_left_out': (BEGIN, 'duty Mia calibrate detector 14:00 15:00',
-                     'duty: calibrate stands where grant, revoke or use is expected'),
+                     'duty: calibrate is an action: write use calibrate on, and the object'),
     'doer_left_out': (BEGIN, 'duty', 'duty: the doer is missing'),
     'what_left_out': (BEGIN, 'duty Mia', 'duty: grant, revoke or use is missing'),
-    'word_too_many': (BEGIN, 'duty Ada grant bench to Mia 14:00 15:00 16:00', 'duty: 16:00 is one word too many'),
+    'word_too_many': (BEGIN, 'duty Ada grant bench to Mia 14:00 15:00 16:00',
+                      'duty: 16:00 is one word too many'),
     'second_permission': (BEGIN, 'permission helper calibrate detector',
                           f'permission: a permission for calibrate on detector {TWICE} 6'),
     'permission_cut_off': (BEGIN, 'permission bench calibrate', 'permission: the object is missing'),
     'permission_too_long': (BEGIN, 'permission bench calibrate detector detector',
                             'permission: detector is one word too many'),
-    'permission_in_another_order': (BEGIN, 'permission calibrate detector bench',
-                                    'permission: calibrate is the name of an action, and a role is expected here'),
+    'permission_reversed': (BEGIN, 'permission calibrate detector bench',
+                            'permission: calibrate is the name of an action, and a role is expected here'),
     'second_assign_rule': (BEGIN, 'assign bench by helper', f'assign: the assign rule for bench {TWICE} 7'),
     'second_revoke_rule': (BEGIN + 'revoke bench by leader\n', 'revoke bench by helper',
                            f'revoke: the revoke rule for bench {TWICE} 8'),
@@ -102,26 +110,32 @@ SLIPS = {
     'wants_nothing_but_bars': (BEGIN, 'revoke bench by leader wants bars helper',
                                'revoke: a role is missing'),
     'wants_twice': (BEGIN, 'revoke bench by leader wants helper wants bench', 'revoke: wants is there twice'),
-    'bars_twice': (BEGIN, 'revoke bench by leader bars helper wants bench bars bench', 'revoke: bars is there twice'),
-    'wanted_role_twice': (BEGIN, 'revoke bench by leader wants helper helper', 'revoke: helper is there twice'),
-    'want_for_wants': (BEGIN, 'revoke bench by leader want helper', 'revoke: want stands where wants or bars is expected'),
+    'bars_twice': (BEGIN, 'revoke bench by leader bars helper wants bench bars bench',
+                   'revoke: bars is there twice'),
+    'wanted_role_twice': (BEGIN, 'revoke bench by leader wants helper helper',
+                          'revoke: helper is there twice'),
+    'want_for_wants': (BEGIN, 'revoke bench by leader want helper',
+                       'revoke: want stands where wants or bars is expected'),
     'holds_nothing': (BEGIN, 'holds Mia', 'holds: a role is missing'),
     'holds_nobody': (BEGIN, 'holds', 'holds: the person is missing'),
-    'unknown_line': (BEGIN, 'hold Mia bench', 'hold: no line begins with this word; the nearest that does is holds'),
+    'unknown_line': (BEGIN, 'hold Mia bench',
+                     'hold: no line begins with this word; the nearest that does is holds'),
     'line_in_capitals': (BEGIN, 'Duty Ada grant bench to Mia 14:00 15:00',
                          'Duty: no line begins with this word; the nearest that does is duty'),
     'second_clock': (BEGIN + 'clock 9:00\n', 'clock 10:00', f'clock: the clock {TWICE} 8'),
     'clock_without_time': (BEGIN, 'clock', 'clock: the time is missing'),
     'second_next': (BEGIN + 'next 7\n', 'next 8', f'next: the next serial {TWICE} 8'),
     'next_0': (BEGIN, 'next 0', 'next: the next serial 0 is outside 1 to 4294967295'),
-    'next_too_high': (BEGIN, 'next 4294967296', 'next: the next serial 4294967296 is outside 1 to 4294967295'),
+    'next_too_high': (BEGIN, 'next 4294967296',
+                      'next: the next serial 4294967296 is outside 1 to 4294967295'),
     'next_is_a_word': (BEGIN, 'next seven', 'next: the next serial is to be a number, not seven'),
     'next_below_a_serial': (BEGIN + 'duty 7: Ada grant bench to Mia 1 2\n', 'next 7',
                             'next: serial 7 is open, so the next serial is at least 8'),
     'serial_0': (BEGIN, 'duty 0: Ada grant bench to Mia 1 2', 'duty: serial 0 is outside 1 to 4294967294'),
     'serial_too_high': (BEGIN, 'duty 4294967295: Ada grant bench to Mia 1 2',
                         'duty: serial 4294967295 is outside 1 to 4294967294'),
-    'serial_after_the_last': (BEGIN + 'duty 4294967294: Ada grant bench to Mia 1 2\n', 'duty Ada grant bench to Mia 1 2',
+    'serial_after_the_last': (BEGIN + 'duty 4294967294: Ada grant bench to Mia 1 2\n',
+                              'duty Ada grant bench to Mia 1 2',
                               'duty: serial 4294967295 is outside 1 to 4294967294'),
     'serial_twice': (BEGIN + 'duty 7: Ada grant bench to Mia 1 2\n', 'duty 7: Ada grant bench to Mia 1 2',
                      f'duty: serial 7 {TWICE} 8'),
@@ -131,23 +145,29 @@ SLIPS = {
     'roles_counted_twice': (NUMBERS, 'roles 3', f'roles: roles {TWICE} 2'),
     'no_people_at_all': ('', 'people 0', 'people: the number of people 0 is outside 1 to 64'),
     'people_without_names': (BEGIN, 'people', 'people: a name is missing'),
-    'actions_counted': (BEGIN, 'actions 3', "actions: '3' is no name: a name begins with a letter and goes on with"
-                        " letters, digits and _ - . '"),
-    'name_with_a_slash': ('', 'board ../a', "board: '../a' is no name: a name begins with a letter and goes on with"
-                          " letters, digits and _ - . '"),
+    'actions_counted': (BEGIN, 'actions 3',
+                        "actions: '3' is no name: a name begins with a letter, then come letters,"
+                        " digits and _ - . '"),
+    'name_with_a_slash': ('', 'board ../a',
+                          "board: '../a' is no name: a name begins with a letter, then come letters,"
+                          " digits and _ - . '"),
     'name_of_the_language': (BEGIN, 'role to', 'role: to is a word of the language and cannot be a name'),
     'board_without_name': ('', 'board', 'board: the name of the board is missing'),
     'board_name_of_two_words': ('', 'board sunny saturday', 'board: saturday is one word too many'),
-    'board_line_too_late': (BEGIN, 'board saturday', 'board: it has to stand before the other lines; line 1 stands'
+    'board_line_too_late': (BEGIN, 'board saturday',
+                            'board: it has to stand before the other lines; line 1 stands'
                             ' before it'),
     'board_without_people': ('', 'board saturday\nroles 2', 'board: this board has no line people'),
     'board_without_roles': ('', 'board saturday\npeople 2', 'board: this board has no line roles'),
     '65_people': ('', 'people 65', 'people: the number of people 65 is outside 1 to 64'),
     '33_roles': ('', 'roles 33', 'roles: the number of roles 33 is outside 1 to 32'),
-    '65_names_of_people': ('', 'people ' + ' '.join(f'p{n}' for n in range(65)), 'people: more than 64 people'),
+    '65_names_of_people': ('', 'people ' + ' '.join(f'p{n}' for n in range(65)),
+                           'people: more than 64 people'),
     '33_names_of_roles': ('', 'roles ' + ' '.join(f'r{n}' for n in range(33)), 'roles: more than 32 roles'),
-    '63_names_of_actions': ('', 'actions ' + ' '.join(f'a{n}' for n in range(63)), 'actions: more than 62 actions'),
-    '257_names_of_objects': ('', 'objects ' + ' '.join(f'o{n}' for n in range(257)), 'objects: more than 256 objects'),
+    '63_names_of_actions': ('', 'actions ' + ' '.join(f'a{n}' for n in range(63)),
+                            'actions: more than 62 actions'),
+    '257_names_of_objects': ('', 'objects ' + ' '.join(f'o{n}' for n in range(257)),
+                             'objects: more than 256 objects'),
     '513_permissions': (BEGIN + ''.join(f'permission 2 {n // 256 + 3} {n % 256}\n' for n in range(511)),
                         'permission 2 63 0', 'permission: more than 512 on one board'),
     '129_duties': (BEGIN + 'duty Ada grant bench to Mia 1 2\n' * 128, 'duty Ada grant bench to Mia 1 2',
@@ -215,12 +235,14 @@ class Sayings(unittest.TestCase):
         self.assertEqual(*(to_bytes(read_boards('a.txt', text)[0].board) for text in (one, other)))
 
     def test_names_or_numbers(self):
-        self.same(BEGIN + 'duty Ada grant bench to Mia 14:00 15:00\nduty Mia use calibrate on detector 15:01 16:00\n',
+        self.same(BEGIN + 'duty Ada grant bench to Mia 14:00 15:00\n'
+                  'duty Mia use calibrate on detector 15:01 16:00\n',
                   'people 3\nroles 3\nholds 0 0\npermission 2 2 0\nassign 2 by 0\n'
                   'duty 0 grant 2 to 2 840 900\nduty 2 use 2 on 0 901 960\n')
 
     def test_names_in_one_line_or_several(self):
-        self.same('people Ada Ben\nroles a b\nholds Ben b\n', 'person Ada\nrole a\nperson Ben\nrole b\nholds Ben b\n')
+        self.same('people Ada Ben\nroles a b\nholds Ben b\n',
+                  'person Ada\nrole a\nperson Ben\nrole b\nholds Ben b\n')
 
     def test_names_after_their_use(self):
         self.same(BEGIN, '\n'.join(reversed(BEGIN.split('\n'))))
@@ -228,7 +250,8 @@ class Sayings(unittest.TestCase):
     def test_permissions_and_rules_are_put_in_order(self):
         lines = ['permission 0 3 1', 'permission 1 2 9', 'revoke 0 by 1', 'assign 1 by 0', 'assign 0 by 0',
                  'permission 0 3 0']
-        self.same('people 1\nroles 2\n' + '\n'.join(lines), 'people 1\nroles 2\n' + '\n'.join(reversed(lines)))
+        self.same('people 1\nroles 2\n' + '\n'.join(lines),
+                  'people 1\nroles 2\n' + '\n'.join(reversed(lines)))
         board = read_boards('a.txt', 'people 1\nroles 2\n' + '\n'.join(lines))[0].board
         self.assertEqual([permission.key() for permission in board.permissions], [(2, 9), (3, 0), (3, 1)])
         self.assertEqual([rule.key() for rule in board.rules], [(0, 0), (0, 1), (1, 0)])
@@ -241,7 +264,8 @@ class Sayings(unittest.TestCase):
 
     def test_serials_follow_and_are_put_in_order(self):
         line = 'Ada grant bench to Mia 1 2\n'
-        board = read_boards('a.txt', BEGIN + f'duty {line}duty 9: {line}duty {line}duty 4: {line}duty {line}')[0].board
+        board = read_boards('a.txt',
+                            BEGIN + f'duty {line}duty 9: {line}duty {line}duty 4: {line}duty {line}')[0].board
         self.assertEqual([duty.serial for duty in board.duties], [1, 4, 5, 9, 10])
         self.assertEqual(board.next_serial, 11)
 
@@ -255,8 +279,8 @@ class Sayings(unittest.TestCase):
 
     def test_board_of_its_own_name_or_the_file(self):
         self.assertEqual(read_boards('folder/plan.txt', BEGIN)[0].name, 'plan')
-        self.assertEqual([named.name for named in read_boards('plan.txt', f'board a\n{BEGIN}board b\n{BEGIN}')],
-                         ['a', 'b'])
+        boards = read_boards('plan.txt', f'board a\n{BEGIN}board b\n{BEGIN}')
+        self.assertEqual([named.name for named in boards], ['a', 'b'])
 
     def test_times(self):
         for word, minute in (('0', 0), ('7', 7), ('1410', 1410), ('0:00', 0), ('9:05', 545), ('09:05', 545),
@@ -276,7 +300,8 @@ class RoundTrip(FolderTest):
     """Words to file to words."""
 
     def test_samples_are_what_their_words_say(self):
-        texts = [named for name in ('boards.txt', *TEXTS) for named in read_boards(name, read(sample(name)).decode())]
+        texts = [named for name in ('boards.txt', *TEXTS)
+                 for named in read_boards(name, read(sample(name)).decode())]
         self.assertEqual(sorted(named.name + '.board' for named in texts), sample_boards())
         for named in texts:
             self.assertEqual(to_bytes(named.board), read(sample(named.name + '.board')), named.name)
@@ -312,7 +337,8 @@ class RoundTrip(FolderTest):
         for seed in range(300):
             named = read_boards('a.txt', words_of(from_bytes(random_file(random.Random(seed))), Names()))[0]
             paths.append(self.write(f'{seed}.board', to_bytes(named.board)))
-        verdicts = [line.split(': ')[1].split()[0] for line in run([command('tick'), *paths]).stdout.splitlines()]
+        lines = run([command('tick'), *paths]).stdout.splitlines()
+        verdicts = [line.split(': ')[1].split()[0] for line in lines]
         self.assertEqual((len(verdicts), set(verdicts)), (300, {'yes', 'no'}))
 
 
@@ -324,7 +350,7 @@ def names_for(board):
 
 
 class Strict(unittest.TestCase):
-    """A text with a word lost, doubled, changed or moved is read or refused with its line, and nothing else."""
+    """A text with a word lost, doubled, changed or moved is read, or refused with its line: nothing else."""
 
     def test_3000_spoilt_boards(self):
         refused = 0
@@ -343,7 +369,8 @@ class Strict(unittest.TestCase):
         self.assertGreater(refused, 1000)
 
     def test_a_word_lost_from_a_duty_is_refused(self):
-        for duty in ('duty 3: Ada grant bench to Mia 14:00 15:00', 'duty 3: Ada revoke bench from Mia 14:00 15:00',
+        for duty in ('duty 3: Ada grant bench to Mia 14:00 15:00',
+                     'duty 3: Ada revoke bench from Mia 14:00 15:00',
                      'duty 3: Mia use calibrate on detector 14:00 15:00'):
             words = duty.split()
             read_boards('a.txt', BEGIN + duty)
@@ -363,6 +390,6 @@ def spoil(chance, lines):
     elif how == 1:
         line.insert(place, line[place])
     elif how == 2:
-        line[place] = chance.choice(('x', '0', '99999999999', '-1', '14:61', 'to', '7:', 'é', '\x00', ':', '+', "'"))
+        line[place] = chance.choice(('x', '0', '99999999999', '-1', '14:61', 'to', '7:', 'é', '\x00', ':'))
     else:
         line[place], line[other] = line[other], line[place]

@@ -34,7 +34,7 @@ class Permission(NamedTuple):
 
 
 class Rule(NamedTuple):
-    """An assign rule (kind 0) or a revoke rule (kind 1) for the target role; wanted and barred are sets of bits."""
+    """An assign rule (kind 0) or a revoke rule (kind 1) for the role; wanted and barred are sets as bits."""
     kind: int
     actor: int
     role: int
@@ -47,7 +47,7 @@ class Rule(NamedTuple):
 
 
 class Duty(NamedTuple):
-    """For a grant and a revoke first is the target user and second the role; for a use first is the object."""
+    """For a grant and a revoke first is the target and second the role; for a use first is the object."""
     serial: int
     doer: int
     action: int

@@ -1,6 +1,6 @@
 """A board file read back, and the first thing that is wrong with it, in the order of document 01."""
-from .board import (ACTIONS, Board, DUTIES, DUTY, Duty, FIRST_USE, HEADER, HOLDING, OBJECTS, PERMISSION, PERMISSIONS,
-                    Permission, ROLES, RULE, RULES, Rule, USERS, offsets)
+from .board import (ACTIONS, Board, DUTIES, DUTY, Duty, FIRST_USE, HEADER, HOLDING, OBJECTS, PERMISSION,
+                    PERMISSIONS, Permission, ROLES, RULE, RULES, Rule, USERS, offsets)
 
 MEANING = {
     1: 'the file has fewer than 40 bytes: it is empty, cut off or no board file',

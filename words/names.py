@@ -67,5 +67,5 @@ def fault_in_name(word):
     if word in SENTENCE_WORDS:
         return f'{word} is a word of the language and cannot be a name'
     if not NAME.fullmatch(word):
-        return f"{word!r} is no name: a name begins with a letter and goes on with letters, digits and _ - . '"
+        return f"{word!r} is no name: a name begins with a letter, then come letters, digits and _ - . '"
     return None

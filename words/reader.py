@@ -3,8 +3,8 @@ import os
 import re
 from typing import NamedTuple
 
-from .board import (Board, DUTIES, Duty, GRANT, LAST_NEXT_SERIAL, LAST_SERIAL, PERMISSIONS, Permission, REVOKE,
-                    Rule, set_of)
+from .board import (Board, DUTIES, Duty, GRANT, LAST_NEXT_SERIAL, LAST_SERIAL, PERMISSIONS, Permission,
+                    REVOKE, Rule, set_of)
 from .line import DIGITS, Refused, lines_of
 from .names import ACTION, KINDS, Names, OBJECT, PERSON, ROLE, fault_in_name, nearest_of
 from .times import time_of
@@ -65,8 +65,8 @@ class BoardReader:
         self.rules = []
         self.duties = []
         self.readers = {'clock': self.read_clock, 'next': self.read_next, 'holds': self.read_holds,
-                        'permission': self.read_permission, 'assign': self.read_rule, 'revoke': self.read_rule,
-                        'duty': self.read_duty, 'board': self.read_late_board}
+                        'permission': self.read_permission, 'assign': self.read_rule,
+                        'revoke': self.read_rule, 'duty': self.read_duty, 'board': self.read_late_board}
 
     def read(self, name, lines):
         """The board: names first, wherever they stand, then the lines that use them."""
@@ -209,7 +209,7 @@ class BoardReader:
         end = line.take_time('the end of the window')
         line.end()
         if start > end:
-            line.refuse(f'the window is turned round: it starts at {time_of(start)} and ends at {time_of(end)}')
+            line.refuse(f'the window is turned round: {time_of(start)} is after {time_of(end)}')
         self.once(line, ('duty', serial), f'serial {serial}')
         self.add(line, self.duties, Duty(serial, doer, action, first, second, start, end), DUTIES)
 
@@ -224,6 +224,8 @@ class BoardReader:
 
     def take_what(self, line):
         """What is to be done: the action, and the fields first and second of document 01."""
+        if line.more() and line.next() in self.names.of[ACTION]:
+            line.refuse(f'{line.next()} is an action: write use {line.next()} on, and the object')
         word = line.take_one_of('grant', 'revoke', 'use')
         if word == 'use':
             action = self.take(line, ACTION, 'the action')

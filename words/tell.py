@@ -1,12 +1,12 @@
-"""A verdict of tick in words. The verdict is tick's; what stands here looks it up on the board and says it."""
+"""A verdict of tick in words. It is tick's: what stands here looks duties and rules up on the board."""
 from .board import GRANT, REVOKE, roles_in
 from .boardfile import BadFile, MEANING, from_bytes
 from .names import ACTION, OBJECT, PERSON, ROLE
 from .times import time_of
 from .writer import what_words
 
-HOW_TO_READ = ('Read it from the top: the windows allow this order, each duty but the last is permitted when its turn\n'
-               'comes, and then the last one is not.')
+HOW_TO_READ = '''Read it from the top: the windows allow this order, each duty but the last is permitted when
+its turn comes, and then the last one is not.'''
 
 
 def green(count):
@@ -14,15 +14,6 @@ def green(count):
         return 'green: no duty is open.'
     duties = 'the one duty' if count == 1 else f'each of the {count} duties'
     return f'green: in every order that the windows allow, {duties} is permitted when its turn comes.'
-
-
-def red(board, names, serials):
-    """The failing order, a line a duty, how to read it, and what the last duty asks."""
-    by_serial = {duty.serial: duty for duty in board.duties}
-    order = [by_serial[serial] for serial in serials]
-    last = order[-1]
-    asks = f'Duty {last.serial} asks: {asked(board, names, last)}.'
-    return '\n'.join(['red: this order fails.', '', *order_lines(order, names), '', HOW_TO_READ, asks])
 
 
 def refused(data, number):
@@ -35,30 +26,62 @@ def refused(data, number):
     return f'refused {number}: {MEANING[number]}.'
 
 
-def order_lines(order, names):
-    """The duties in columns: serial, who, what, window; the last one marked."""
+def red(board, names, serials):
+    """The failing order, a line a duty, how to read it, and what the last duty asks."""
+    by_serial = {duty.serial: duty for duty in board.duties}
+    order = [by_serial[serial] for serial in serials]
+    last = order[-1]
+    asks = needs(board, last)
+    if asks is None:
+        marked, told = [], missing(last, names)
+    else:
+        marked = [duty for duty in order[:-1] if changes_one_of(duty, asks)]
+        told = '; '.join(need_words(need, names) for need in asks) + '. '
+        told += 'The duties marked * change that.' if marked else 'No duty above it changes that.'
+    return '\n'.join(['red: this order fails.', '', *order_lines(order, marked, names), '', HOW_TO_READ,
+                      f'Duty {last.serial} asks: {told}'])
+
+
+def order_lines(order, marked, names):
+    """The duties in columns: serial, who, what, window; the last one is said to be not permitted."""
     rows = [(str(duty.serial), names.called(PERSON, duty.doer), what_words(duty, names.called),
              f'{time_of(duty.start)} to {time_of(duty.end)}') for duty in order]
-    widths = [max(len(row[column]) for row in rows) for column in range(4)]
-    lines = ['  ' + row[0].rjust(widths[0]) + '  '
-             + '  '.join(row[column].ljust(widths[column]) for column in (1, 2, 3)) for row in rows]
+    serial, who, what, window = (max(map(len, column)) for column in zip(*rows))
+    marks = ['*' if duty in marked else ' ' for duty in order]
+    lines = [f'{mark} {row[0]:>{serial}}  {row[1]:{who}}  {row[2]:{what}}  {row[3]:{window}}'
+             for mark, row in zip(marks, rows)]
     return [line.rstrip() for line in lines[:-1]] + [lines[-1] + '  <- NOT PERMITTED']
 
 
-def asked(board, names, duty):
-    """What the board asks of those concerned before this duty: its permission or rule in words."""
-    doer = names.called(PERSON, duty.doer)
+def needs(board, duty):
+    """What a duty asks, as (person, role, held or not); None where it has no permission or rule."""
     if duty.action not in (GRANT, REVOKE):
-        found = [permission for permission in board.permissions if permission.key() == (duty.action, duty.first)]
-        use = f'{names.called(ACTION, duty.action)} on {names.called(OBJECT, duty.first)}'
-        return (f'{doer} holds {names.called(ROLE, found[0].role)}' if found
-                else f'a permission for {use}, and the board has none')
+        found = [permission for permission in board.permissions if permission.key() == (duty.action,
+                                                                                        duty.first)]
+        return [(duty.doer, found[0].role, True)] if found else None
     found = [rule for rule in board.rules if rule.key() == (duty.action, duty.second)]
     if not found:
+        return None
+    return [(duty.doer, found[0].actor, True),
+            *((duty.first, role, True) for role in roles_in(found[0].wanted)),
+            *((duty.first, role, False) for role in roles_in(found[0].barred))]
+
+
+def changes_one_of(duty, asks):
+    """Whether the duty grants or revokes a role of somebody that is asked about."""
+    return (duty.action in (GRANT, REVOKE)
+            and any((duty.first, duty.second) == (person, role) for person, role, _ in asks))
+
+
+def need_words(need, names):
+    person, role, held = need
+    return f'{names.called(PERSON, person)} {"holds" if held else "does not hold"} {names.called(ROLE, role)}'
+
+
+def missing(duty, names):
+    """The permission or rule that a duty lacks."""
+    if duty.action in (GRANT, REVOKE):
         kind = 'an assign' if duty.action == GRANT else 'a revoke'
-        return f'{kind} rule for {names.called(ROLE, duty.second)}, and the board has none'
-    target = names.called(PERSON, duty.first)
-    asks = [f'{doer} holds {names.called(ROLE, found[0].actor)}']
-    asks += [f'{target} holds {names.called(ROLE, role)}' for role in roles_in(found[0].wanted)]
-    asks += [f'{target} does not hold {names.called(ROLE, role)}' for role in roles_in(found[0].barred)]
-    return '; '.join(asks)
+        return f'{kind} rule for {names.called(ROLE, duty.second)}, and the board has none.'
+    use = f'{names.called(ACTION, duty.action)} on {names.called(OBJECT, duty.first)}'
+    return f'a permission for {use}, and the board has none.'
