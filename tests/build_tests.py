@@ -131,12 +131,11 @@ class Build(FolderTest):
         said = 'tick: rt, the command of the Rattle kit, is not on the PATH\n'
         bare = self.path('tools')
         os.mkdir(bare)
-        for tool in ('sh', 'find', 'uname'):
+        for tool in ('sh', 'find', 'mkdir', 'touch', 'flock'):
             os.symlink(shutil.which(tool), os.path.join(bare, tool))
         self.ends(self.tick(PATH=bare), 2, '', said)
         self.ends(self.tick(), 0, 'yes 0\n', BUILDING)
-        self.ends(self.tick(PATH=bare), 2, '', said)
-        self.ends(self.tick(PATH=bare, RATTLE_HOME=self.path('kit')), 0, 'yes 0\n', '')
+        self.ends(self.tick(PATH=bare), 0, 'yes 0\n', '')
 
     def test_target_cannot_be_written(self):
         self.write('repo/target', 'a file stands here')
@@ -157,11 +156,24 @@ class Build(FolderTest):
         self.ends(self.tick(PATH=path), 0, 'yes 0\n', BUILDING)
 
     def test_a_kit_without_this_machine(self):
+        loader = self.path(f'kit/on/{platform.machine()}/toolchain/lib/ld-linux-x86-64.so.2')
+        os.unlink(loader)
+        self.ends(self.tick(), 2, '', f'tick: the Rattle kit has nothing for this machine: no {loader}\n')
+
+    def test_a_kit_that_has_moved(self):
         self.tick()
+        os.rename(self.path('kit'), self.path('moved'))
+        self.environment['PATH'] = self.path('moved/bin') + ':' + os.environ['PATH']
+        self.ends(self.tick(), 0, 'yes 0\n', BUILDING)
+        self.ends(self.tick(), 0, 'yes 0\n', '')
+
+    def test_the_kit_that_is_named(self):
+        self.kit('other')
         os.unlink(self.path(f'kit/on/{platform.machine()}/toolchain/lib/ld-linux-x86-64.so.2'))
-        ran = self.tick()
-        self.ends(ran, 2, '')
-        self.assertIn('tick: the Rattle kit has nothing for this machine: no ', ran.stderr)
+        self.ends(self.tick(RATTLE_HOME=self.path('none')), 2, '',
+                  f'tick: there is no folder {self.path("none")} (RATTLE_HOME)\n')
+        self.ends(self.tick(RATTLE_HOME=self.path('other')), 0, 'yes 0\n', BUILDING)
+        self.ends(self.tick(), 0, 'yes 0\n', '')
 
     def test_the_emulator_on_arm(self):
         self.write('kit/bin/uname', '#!/bin/sh\necho aarch64\n', 0o755)
@@ -183,3 +195,5 @@ class Build(FolderTest):
         self.ends(ran, 0, 'yes 0\n', BUILDING)
         self.ends(run([self.path('repo/bin/run-program')], env=self.environment), 2, '',
                   'run-program: usage: run-program NAME\n')
+        self.ends(run([self.path('repo/bin/run-program'), 'tock'], env=self.environment), 2, '',
+                  'tock: there is no such program\n')

@@ -134,7 +134,7 @@ class Board(FolderTest):
         self.ends(run([command('board'), path]), 2, '', f'{path}:2: this is no text in UTF-8\n')
 
     def test_names_with_accents_and_byte_order_mark(self):
-        path = self.write('a.txt', '\ufeffpeople Zoë O\'Neil Jean-Luc\nroles a\nholds Zoë a\n')
+        path = self.write('a.txt', '\ufeffpeople Zoë O\'Neil Jean-Luc\nroles a\nholds Zoe\u0308 a\n')
         self.ends(run([command('board'), path], env={**os.environ, 'LC_ALL': 'C'}), 0)
         words = run([command('board'), '--words', self.path('a.board'), '--names', path],
                     env={**os.environ, 'LC_ALL': 'C', 'PYTHONIOENCODING': 'ascii'}, encoding='utf-8')
@@ -218,6 +218,15 @@ class Judge(FolderTest):
                           'case5 is red',
                                     'case6 is red', 'case6b is green', 'case7 is green', 'case8 is red',
                                     'case9 is green', 'case9b is red', 'case10 is red', 'case11 is red'])
+
+    def test_a_star_for_what_changes_what_is_asked(self):
+        path = self.write('a.txt', PEOPLE + 'holds Mia bench\nrevoke bench by leader\nassign helper by leader\n'
+                          'permission bench 2 0\nduty Ada revoke bench from Ben 1 1\n'
+                          'duty Ada grant helper to Mia 2 2\nduty Ada revoke bench from Mia 3 3\n'
+                          'duty Ada revoke bench from Mia 4 4\nduty Mia use 2 on 0 5 5\n')
+        ran = run([command('judge'), path])
+        self.ends(ran, 1, err='')
+        self.assertEqual([line[:3] for line in ran.stdout.splitlines()[2:7]], ['  1', '  2', '* 3', '* 4', '  5'])
 
     def asks(self, lines, said):
         ran = run([command('judge'), self.write('a.txt', PEOPLE + lines)])

@@ -7,6 +7,7 @@ import unittest
 
 ROOT = os.path.realpath(os.path.join(os.path.dirname(__file__), '..'))
 SAMPLES = os.path.join(ROOT, 'samples')
+os.environ.pop('PYTHONUNBUFFERED', None)  # a full disk is to be met as users meet it
 
 
 def command(name):

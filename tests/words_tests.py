@@ -5,7 +5,7 @@ import unittest
 
 from support import FolderTest, SAMPLES, command, random_file, read, run, sample, sample_boards
 from words.board import to_bytes
-from words.boardfile import from_bytes
+from words.boardfile import BadFile, from_bytes
 from words.line import Refused
 from words.names import ACTION, Names, OBJECT, PERSON, ROLE
 from words.reader import read_boards
@@ -43,6 +43,8 @@ SLIPS = {
                                'board: a second board a; the first is in line 1'),
     'unknown_person': (BEGIN, 'holds Mai bench', 'holds: there is no person Mai; the nearest name is Mia'),
     'unknown_role': (BEGIN, 'holds Mia Bench', 'holds: there is no role Bench; the nearest name is bench'),
+    'unknown_role_in_capitals': (BEGIN, 'holds Mia BENCH',
+                                 'holds: there is no role BENCH; the nearest name is bench'),
     'unknown_action': (BEGIN, 'duty Mia use calibrat on detector 14:00 15:00',
                        'duty: there is no action calibrat; the nearest name is calibrate'),
     'unknown_object': (BEGIN, 'duty Mia use calibrate on detectors 14:00 15:00',
@@ -79,6 +81,8 @@ SLIPS = {
                          'clock: the time: 4294967296 is after the last minute, 4294967295 (2982616+4:15)'),
     'window_turned_round': (BEGIN, 'duty Ada grant bench to Mia 15:00 14:00',
                             'duty: the window is turned round: 15:00 is after 14:00'),
+    'window_turned_round_by_a_minute': (BEGIN, 'duty Ada grant bench to Mia 14:01 14:00',
+                                        'duty: the window is turned round: 14:01 is after 14:00'),
     'start_left_out': (BEGIN, 'duty Ada grant bench to Mia', 'duty: the start of the window is missing'),
     'target_left_out': (BEGIN, 'duty Ada grant bench to', 'duty: the target is missing'),
     'to_left_out': (BEGIN, 'duty Ada grant bench Mia 14:00 15:00', 'duty: Mia stands where to is expected'),
@@ -253,8 +257,8 @@ class Sayings(unittest.TestCase):
         self.same('people 1\nroles 2\n' + '\n'.join(lines),
                   'people 1\nroles 2\n' + '\n'.join(reversed(lines)))
         board = read_boards('a.txt', 'people 1\nroles 2\n' + '\n'.join(lines))[0].board
-        self.assertEqual([permission.key() for permission in board.permissions], [(2, 9), (3, 0), (3, 1)])
-        self.assertEqual([rule.key() for rule in board.rules], [(0, 0), (0, 1), (1, 0)])
+        self.assertEqual([permission[1:] for permission in board.permissions], [(2, 9), (3, 0), (3, 1)])
+        self.assertEqual([(rule.kind, rule.role) for rule in board.rules], [(0, 0), (0, 1), (1, 0)])
 
     def test_wants_and_bars(self):
         text = 'people 1\nroles 4\nassign 1 by 0 {}\n'
@@ -347,6 +351,42 @@ def names_for(board):
     for kind, count in ((PERSON, board.users), (ROLE, board.roles), (ACTION, 5), (OBJECT, 7)):
         names.of[kind] = [f'{kind.one}-{number}' for number in range(count)]
     return names
+
+
+class Faults(FolderTest):
+    """What the reader of board files says is wrong is what tick says, on spoilt files."""
+
+    def test_600_spoilt_files(self):
+        paths, expected = [], []
+        for seed in range(600):
+            data = spoilt_file(random.Random(seed))
+            paths.append(self.write(f'{seed}.board', data))
+            expected.append(fault_of(data))
+        said = [line.split(': ')[1] for line in run([command('tick'), *paths]).stdout.splitlines()]
+        told = [line if line.startswith('refused') else 'accepted' for line in said]
+        self.assertEqual(told, expected)
+        self.assertEqual(set(told), {'accepted', *(f'refused {number}' for number in range(1, 8))})
+
+
+def fault_of(data):
+    try:
+        from_bytes(data)
+    except BadFile as fault:
+        return f'refused {fault.number}'
+    return 'accepted'
+
+
+def spoilt_file(chance):
+    """A board file cut off, or with one or two of its two-byte numbers changed."""
+    data = bytearray(random_file(chance))
+    if chance.random() < 0.05:
+        return bytes(data[:chance.randrange(len(data))])
+    for _ in range(chance.randint(1, 2)):
+        place = chance.randrange(0, 40, 2) if chance.random() < 0.15 else chance.randrange(40, len(data), 2)
+        near = int.from_bytes(data[place:place + 2], 'little') + chance.choice((-1, 1))
+        number = chance.choice((0, 1, 2, 3, 4, 5, 63, 64, 255, 256, 65535, near % 65536))
+        data[place:place + 2] = number.to_bytes(2, 'little')
+    return bytes(data)
 
 
 class Strict(unittest.TestCase):

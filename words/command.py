@@ -2,6 +2,7 @@
 import os
 import stat
 import sys
+import unicodedata
 
 from .line import Refused
 from .names import Names
@@ -46,7 +47,7 @@ def read_words(path):
     if b'\0' in data:
         raise Refused(f'{path}: this is no text; a board file has a name that ends in .board')
     try:
-        return read_boards(path, data.decode('utf-8-sig'))
+        return read_boards(path, unicodedata.normalize('NFC', data.decode('utf-8-sig')))
     except UnicodeDecodeError as fault:
         line = data[:fault.start].count(b'\n') + 1
         raise Refused(f'{path}:{line}: this is no text in UTF-8') from None
