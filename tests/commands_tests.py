@@ -220,13 +220,14 @@ class Judge(FolderTest):
                                     'case9 is green', 'case9b is red', 'case10 is red', 'case11 is red'])
 
     def test_a_star_for_what_changes_what_is_asked(self):
-        path = self.write('a.txt', PEOPLE + 'holds Mia bench\nrevoke bench by leader\nassign helper by leader\n'
-                          'permission bench 2 0\nduty Ada revoke bench from Ben 1 1\n'
+        path = self.write('a.txt', PEOPLE + 'holds Mia bench\nrevoke bench by leader\n'
+                          'assign helper by leader\npermission bench 2 0\nduty Ada revoke bench from Ben 1 1\n'
                           'duty Ada grant helper to Mia 2 2\nduty Ada revoke bench from Mia 3 3\n'
                           'duty Ada revoke bench from Mia 4 4\nduty Mia use 2 on 0 5 5\n')
         ran = run([command('judge'), path])
         self.ends(ran, 1, err='')
-        self.assertEqual([line[:3] for line in ran.stdout.splitlines()[2:7]], ['  1', '  2', '* 3', '* 4', '  5'])
+        marks = [line[:3] for line in ran.stdout.splitlines()[2:7]]
+        self.assertEqual(marks, ['  1', '  2', '* 3', '* 4', '  5'])
 
     def asks(self, lines, said):
         ran = run([command('judge'), self.write('a.txt', PEOPLE + lines)])
