@@ -221,7 +221,8 @@ class Judge(FolderTest):
 
     def test_a_star_for_what_changes_what_is_asked(self):
         path = self.write('a.txt', PEOPLE + 'holds Mia bench\nrevoke bench by leader\n'
-                          'assign helper by leader\npermission bench 2 0\nduty Ada revoke bench from Ben 1 1\n'
+                          'assign helper by leader\npermission bench 2 0\n'
+                          'duty Ada revoke bench from Ben 1 1\n'
                           'duty Ada grant helper to Mia 2 2\nduty Ada revoke bench from Mia 3 3\n'
                           'duty Ada revoke bench from Mia 4 4\nduty Mia use 2 on 0 5 5\n')
         ran = run([command('judge'), path])
