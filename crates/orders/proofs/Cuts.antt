@@ -10,7 +10,7 @@ use native.Mathlib.Omega.{arith}
 use lib.ListN.{length}
 use Rattle.orders.specs.Orders.{World, Permitted, run}
 use Rattle.orders.specs.Beginnings.{FirstStuck}
-use Rattle.orders.specs.Lines.{goesThrough, cutOff}
+use Rattle.orders.specs.Trails.{goesThrough, cutOff}
 use Rattle.orders.proofs.Tests.{by-test, clash, and-true, and-both}
 
 module _ (W : World) where

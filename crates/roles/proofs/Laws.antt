@@ -100,7 +100,8 @@ with-same set role h = rw (lt-ltb role width h, with-bit-same set role)
 
 pub with-other : (set role q : ℕ) → (q ≡ role → ⊥) → inSet (withRole set role) q ≡ inSet set q
 unfolding withRole
-with-other set role q n = either (ltb role width) (bitOr set (1 * 2 ^ role)) set q (with-bit-other set role q n)
+with-other set role q n =
+    either (ltb role width) (bitOr set (1 * 2 ^ role)) set q (with-bit-other set role q n)
 
 pub without-same : (set role : ℕ) → role < width → inSet (withoutRole set role) role ≡ false
 unfolding withoutRole
