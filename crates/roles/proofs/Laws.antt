@@ -67,7 +67,7 @@ shifted r h = shl-exact {a = 1} 1 r width (omega arith) (omega arith)
 
 -- ---- what a set holds
 
--- no set of 32 bits has a role from 32 on
+-- no set has a role from its width on
 pub beyond : (set role : ℕ) → set < 2 ^ width → width ≤ role → inSet set role ≡ false
 beyond set role f k =
     let z : set / 2 ^ role ≡ 0 = div-eq-of-lt (omega (arith, pow-mono k)) in

@@ -36,25 +36,29 @@ enum-told c = search needs
 
 returns : tie.Need-returns
 returns c =
-    let m = c .before .before .before .before .before .before in
-    let target = m .what .given .0 .0 in
-    let role = m .what .given .0 .1 .0 in
-    let held = c .before .before .before .held-by .ensures in
+    let asked = c .before .before .before in
+    let told = asked .before .before .before in
+    let start = told .before .before in
+    let target = told .what .given .0 .0 in
+    let role = told .what .given .0 .1 .0 in
+    let held = asked .held-by .ensures in
     let made = c .before .with-role .ensures ∙ ap (λ (x : ℕ). withRole x role) held in
     rw
-    (m .what .given .1)
-    (c .put-set .ensures ∙ ap (λ (x : ℕ). set (m .before .before .args .holdings .now) target x) made)
+    (told .what .given .1)
+    (c .put-set .ensures ∙ ap (λ (x : ℕ). set (start .args .holdings .now) target x) made)
 
 returns-2 : tie.Need-returns-2
 returns-2 c =
-    let m = c .before .before .before .before .before .before in
-    let target = m .what2 .given .0 .0 in
-    let role = m .what2 .given .0 .1 .0 in
-    let held = c .before .before .before .held-by2 .ensures in
+    let asked = c .before .before .before in
+    let told = asked .before .before .before in
+    let start = told .before .before in
+    let target = told .what2 .given .0 .0 in
+    let role = told .what2 .given .0 .1 .0 in
+    let held = asked .held-by2 .ensures in
     let made = c .before .without-role .ensures ∙ ap (λ (x : ℕ). withoutRole x role) held in
     rw
-    (m .what2 .given .1)
-    (c .put-set2 .ensures ∙ ap (λ (x : ℕ). set (m .before .before .args .holdings .now) target x) made)
+    (told .what2 .given .1)
+    (c .put-set2 .ensures ∙ ap (λ (x : ℕ). set (start .args .holdings .now) target x) made)
 
 returns-3 : tie.Need-returns-3
 returns-3 c = search needs
