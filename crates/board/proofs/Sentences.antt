@@ -105,8 +105,3 @@ pub permitted-is :
     (v : View) → recordsFit v ≡ true → (s : Holding → Bool) (d : Duty)
     → worldOf v .permitted s d ≡ true ↔ Sentence v s (d .doer) (d .what)
 permitted-is v fit s d = sentence-is v fit s (d .doer) (d .what)
-
-pub permitted-now :
-    (v : View) (d : Duty)
-    → worldOf v .permitted (heldIn (v .holdings)) d ≡ permittedNow v (d .doer) (d .what)
-permitted-now v d = refl
