@@ -42,8 +42,9 @@ returns c =
     let target = told .what .given .0 .0 in
     let role = told .what .given .0 .1 .0 in
     let held : asked .held-by .result ≡ getD now target 0 = asked .held-by .ensures in
-    let made = c .before .with-role .ensures ∙ ap (λ (x : ℕ). withRole x role) held in
-    let put : c .put-set .last .0 ≡ set now target (c .before .with-role .result) = c .put-set .ensures in
+    let new = c .before .with-role in
+    let made = new .ensures ∙ ap (λ (x : ℕ). withRole x role) held in
+    let put : c .put-set .last .0 ≡ set now target (new .result) = c .put-set .ensures in
     rw (told .what .given .1) (put ∙ ap (λ (x : ℕ). set now target x) made)
 
 returns-2 : tie.Need-returns-2
@@ -54,8 +55,9 @@ returns-2 c =
     let target = told .what2 .given .0 .0 in
     let role = told .what2 .given .0 .1 .0 in
     let held : asked .held-by2 .result ≡ getD now target 0 = asked .held-by2 .ensures in
-    let made = c .before .without-role .ensures ∙ ap (λ (x : ℕ). withoutRole x role) held in
-    let put : c .put-set2 .last .0 ≡ set now target (c .before .without-role .result) = c .put-set2 .ensures in
+    let new = c .before .without-role in
+    let made = new .ensures ∙ ap (λ (x : ℕ). withoutRole x role) held in
+    let put : c .put-set2 .last .0 ≡ set now target (new .result) = c .put-set2 .ensures in
     rw (told .what2 .given .1) (put ∙ ap (λ (x : ℕ). set now target x) made)
 
 returns-3 : tie.Need-returns-3
