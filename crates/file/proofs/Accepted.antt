@@ -19,7 +19,9 @@ use Rattle.board.specs.Limits.{maxUsers, maxPermissions, maxRules, maxDuties}
 use Rattle.board.specs.Permitted.{below}
 use Rattle.board.specs.View.{View, view}
 use Rattle.board.proofs.AnswersLaws.{Refusing, NoneApplies, none-done, none-first, none-second}
-use Rattle.board.proofs.GoodLaws.{CountsInRange, FillerBeyond, counts→range, beyond→filler, parts→good}
+use Rattle.board.proofs.InRange.{CountsInRange, counts→range}
+use Rattle.board.proofs.FillerLaws.{FillerBeyond, beyond→filler}
+use Rattle.board.proofs.GoodLaws.{parts→good}
 use Rattle.file.specs.Bytes.{four}
 use Rattle.file.specs.Layout.{headerSize, countsOf, clockOf, nextOf, totalOf, laidOut}
 use Rattle.file.specs.Records.{holdingAt, permissionAt, ruleAt, ruleSpare, dutyAt, secondFits}

@@ -1,7 +1,7 @@
--- `verdict::in_line` meets its contract: it is the test's own words, with a call for each `wholly before`.
+-- `verdict::in_trail` meets its contract: it is the test's own words, with a call for each `wholly before`.
 use borrow.Author.Needs.{needs}
-use Rattle.verdict.proofs.in_line.Statement.{statement}
-use Rattle.verdict.proofs.in_line.Tie as tie
+use Rattle.verdict.proofs.in_trail.Statement.{statement}
+use Rattle.verdict.proofs.in_trail.Tie as tie
 
 wholly-before-requires : tie.Need-wholly-before-requires
 wholly-before-requires c κs = search needs
@@ -32,8 +32,8 @@ returns-2 c =
       from-x .wholly-before5 .ensures,
     )
 
-pub in-line-spec : {M : Type 1} → statement M
-in-line-spec =
+pub in-trail-spec : {M : Type 1} → statement M
+in-trail-spec =
     tie.close
     (tie.spec
     wholly-before-requires

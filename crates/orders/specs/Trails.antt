@@ -1,7 +1,7 @@
--- The list in which a red board's duty d gets stuck. `pool` is in an allowed order. For a need that x can
+-- The trail on which a red board's duty d gets stuck. `pool` is in an allowed order. For a need that x can
 -- make wrong: what must come early, x, what lies between x and d, d; where d has no permission or rule, or a
 -- need that stays wrong, x is d itself. Done duty by duty and cut after the first that is not permitted, the
--- list is a failing order.
+-- trail is a failing order.
 use mathlib.Core.Path.{_≡_}
 use mathlib.Core.Bool.{Bool, true, false, not, _&&_, _||_, cond}
 use mathlib.Core.List.{List, [], _∷_, _++_}
@@ -22,8 +22,9 @@ module _ (W : World) where
   abbrev pub between : Duty → Duty → Duty → Bool
   between x d y = whollyBefore x y && whollyBefore y d
 
-  abbrev pub line : List Duty → Duty → Duty → List Duty
-  line pool x d = keep (early x d) pool ++ (x ∷ (keep (between x d) pool ++ (d ∷ [])))
+  -- what must come early, x, what lies between x and d, d
+  abbrev pub trail : List Duty → Duty → Duty → List Duty
+  trail pool x d = keep (early x d) pool ++ (x ∷ (keep (between x d) pool ++ (d ∷ [])))
 
   -- each duty of the list is permitted in its turn
   abbrev pub goesThrough : State → List Duty → Bool
@@ -38,8 +39,8 @@ module _ (W : World) where
 module _ (D : Duties) where
   open Duties D using (Duty, Holding, asks)
 
-  -- Why `line pool x d` gets stuck, in the tests of the criterion: x is d, which has no permission or rule or
-  -- a need that stays wrong (a); or x makes a need of d wrong (b).
+  -- Why `trail pool x d` gets stuck, in the tests of the criterion: x is d, which has no permission or rule
+  -- or a need that stays wrong (a); or x makes a need of d wrong (b).
   pub data StuckBy (s : Holdings D) (pool : List Duty) (d x : Duty) : Type 0 where
     unruled : x ≡ d → ruled (asks d) ≡ false → StuckBy s pool d x
     stays :
