@@ -25,7 +25,7 @@ use Rattle.file.specs.Layout.{headerSize, countsOf, clockOf, nextOf, tot
 use Rattle.file.specs.Records.{holdingAt, permissionAt, ruleAt, ruleSpare, dutyAt, secondFits}
 use Rattle.file.specs.Records.{faultOf, isAbove, firstFault}
 use Rattle.file.specs.Reads.{headerChecks, recordChecks, readChecks, boardOf}
-use Rattle.file.proofs.Faults.{NoFault, no-fault, fault-answers}
+use Rattle.file.proofs.FirstFault.{NoFault, no-fault, fault-answers}
 use Rattle.file.proofs.Filled.{all-fit, part-fits, filled-length, filled-take, filled-drop}
 
 -- ---- the board of any file

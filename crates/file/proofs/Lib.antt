@@ -1,5 +1,5 @@
 pub mod Filled
-pub mod Faults
+pub mod FirstFault
 pub mod Accepted
 pub mod Settled
 pub mod Longest

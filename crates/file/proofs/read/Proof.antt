@@ -11,7 +11,7 @@ use Rattle.board.proofs.AnswersLaws.{NoneApplies, done-none, refused-first, the
 use Rattle.file.specs.Parts.{Complete}
 use Rattle.file.specs.Reads.{headerChecks, recordChecks, readChecks, Reads}
 use Rattle.file.proofs.Accepted.{HeaderPasses, header-passes, header-refuses}
-use Rattle.file.proofs.Faults.{fault-answers}
+use Rattle.file.proofs.FirstFault.{fault-answers}
 use Rattle.file.proofs.read.Statement.{statement}
 use Rattle.file.proofs.read.Tie as tie
 
