@@ -4,6 +4,7 @@ ghost use Prim.Native.Nat.{_+_, _≤_, _<_};
 ghost use lib.ListN.{length};
 ghost use Rattle.file.specs.Bytes.{two, four};
 
+// A byte in two bytes.
 fn wide(x: u8) -> u16
     ensures { λ r. ⌜ (r ≡ x) × (r < 256) ⌝ }
 {
@@ -20,6 +21,7 @@ pub(crate) fn two_at(s: &[u8], at: usize) -> u16
     low + high * 256
 }
 
+// Two bytes in four.
 fn wider(x: u16) -> u32
     ensures { λ r. ⌜ (r ≡ x) × (r < 65536) ⌝ }
 {

@@ -1,4 +1,4 @@
-// What the bytes of one record of a board file say.
+// What the bytes of one record of a board file say. Records are numbered from 0 within their part.
 use crate::bytes::four_at;
 use crate::bytes::two_at;
 use crate::layout;
@@ -13,8 +13,10 @@ ghost use Prim.Native.Nat.{_+_, _*_, _≤_};
 ghost use lib.ListN.{length};
 ghost use Rattle.file.specs.Layout.{countsOf, holdingsFrom, permissionsFrom, rulesFrom, dutiesFrom};
 ghost use Rattle.file.specs.Layout.{holdingSize, permissionSize, ruleSize, dutySize};
-ghost use Rattle.file.specs.Records.{holdingAt, permissionAt, ruleAt, whatOf, dutyAt, secondFits};
+ghost use Rattle.file.specs.Records.{holdingAt, permissionAt, ruleAt, ruleSpare};
+ghost use Rattle.file.specs.Records.{whatOf, dutyAt, secondFits};
 
+// The set of roles of the user of this number.
 pub(crate) fn holding_at(s: &[u8], i: usize) -> u32
     requires { ⌜ holdingsFrom + i * holdingSize + holdingSize ≤ length (now s) ⌝ }
     ensures { λ r. ⌜ r ≡ holdingAt (now (s .entry)) i ⌝ }
@@ -22,6 +24,7 @@ pub(crate) fn holding_at(s: &[u8], i: usize) -> u32
     four_at(s, layout::HEADER + i * layout::HOLDING)
 }
 
+// The permission of this number.
 pub(crate) fn permission_at(s: &[u8], counts: Counts, i: usize) -> Permission
     requires { ⌜ (counts ≡ countsOf (now s))
         × (permissionsFrom counts + i * permissionSize + permissionSize ≤ length (now s)) ⌝ }
@@ -29,8 +32,8 @@ pub(crate) fn permission_at(s: &[u8], counts: Counts, i: usize) -> Permission
 {
     let at = layout::permissions_from(counts) + i * layout::PERMISSION;
     let role = two_at(s, at);
-    let action = two_at(s, at + 2);
-    let object = two_at(s, at + 4);
+    let action = two_at(s, at + layout::PERMISSION_ACTION);
+    let object = two_at(s, at + layout::PERMISSION_OBJECT);
     Permission {
         role,
         action,
@@ -38,6 +41,7 @@ pub(crate) fn permission_at(s: &[u8], counts: Counts, i: usize) -> Permission
     }
 }
 
+// The rule of this number.
 pub(crate) fn rule_at(s: &[u8], counts: Counts, i: usize) -> Rule
     requires { ⌜ (counts ≡ countsOf (now s))
         × (rulesFrom counts + i * ruleSize + ruleSize ≤ length (now s)) ⌝ }
@@ -45,10 +49,10 @@ pub(crate) fn rule_at(s: &[u8], counts: Counts, i: usize) -> Rule
 {
     let at = layout::rules_from(counts) + i * layout::RULE;
     let kind = two_at(s, at);
-    let actor = two_at(s, at + 2);
-    let role = two_at(s, at + 4);
-    let wanted = four_at(s, at + 8);
-    let barred = four_at(s, at + 12);
+    let actor = two_at(s, at + layout::RULE_ACTOR);
+    let role = two_at(s, at + layout::RULE_ROLE);
+    let wanted = four_at(s, at + layout::RULE_WANTED);
+    let barred = four_at(s, at + layout::RULE_BARRED);
     Rule {
         kind,
         actor,
@@ -56,6 +60,18 @@ pub(crate) fn rule_at(s: &[u8], counts: Counts, i: usize) -> Rule
         wanted,
         barred,
     }
+}
+
+// The spare of the rule of this number.
+pub(crate) fn rule_spare(s: &[u8], counts: Counts, i: usize) -> u16
+    requires { ⌜ (counts ≡ countsOf (now s))
+        × (rulesFrom counts + i * ruleSize + ruleSize ≤ length (now s)) ⌝ }
+    ensures { λ r. ⌜ r ≡ ruleSpare (now (s .entry)) i ⌝ }
+{
+    two_at(
+        s,
+        layout::rules_from(counts) + i * layout::RULE + layout::RULE_SPARE,
+    )
 }
 
 // What is to be done, by a record's action, first and second.
@@ -80,6 +96,7 @@ fn what_of(action: u16, first: u16, second: u16) -> What
     }
 }
 
+// The duty of this number.
 pub(crate) fn duty_at(s: &[u8], counts: Counts, i: usize) -> Duty
     requires { ⌜ (counts ≡ countsOf (now s))
         × (dutiesFrom counts + i * dutySize + dutySize ≤ length (now s)) ⌝ }
@@ -87,10 +104,14 @@ pub(crate) fn duty_at(s: &[u8], counts: Counts, i: usize) -> Duty
 {
     let at = layout::duties_from(counts) + i * layout::DUTY;
     let serial = Serial(four_at(s, at));
-    let doer = two_at(s, at + 4);
-    let what = what_of(two_at(s, at + 6), two_at(s, at + 8), two_at(s, at + 10));
-    let start = four_at(s, at + 12);
-    let end = four_at(s, at + 16);
+    let doer = two_at(s, at + layout::DUTY_DOER);
+    let what = what_of(
+        two_at(s, at + layout::DUTY_ACTION),
+        two_at(s, at + layout::DUTY_FIRST),
+        two_at(s, at + layout::DUTY_SECOND),
+    );
+    let start = four_at(s, at + layout::DUTY_START);
+    let end = four_at(s, at + layout::DUTY_END);
     Duty {
         serial,
         doer,
@@ -100,13 +121,13 @@ pub(crate) fn duty_at(s: &[u8], counts: Counts, i: usize) -> Duty
     }
 }
 
-// Whether the second number of a use is 0.
+// Whether the second of the duty of this number is 0 where it is a use.
 pub(crate) fn second_fits(s: &[u8], counts: Counts, i: usize) -> bool
     requires { ⌜ (counts ≡ countsOf (now s))
         × (dutiesFrom counts + i * dutySize + dutySize ≤ length (now s)) ⌝ }
     ensures { λ r. ⌜ r ≡ secondFits (now (s .entry)) i ⌝ }
 {
     let at = layout::duties_from(counts) + i * layout::DUTY;
-    let action = two_at(s, at + 6);
-    ((action == 0) | (action == 1)) | (two_at(s, at + 10) == 0)
+    let action = two_at(s, at + layout::DUTY_ACTION);
+    ((action == 0) | (action == 1)) | (two_at(s, at + layout::DUTY_SECOND) == 0)
 }

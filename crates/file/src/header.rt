@@ -1,4 +1,4 @@
-// The header of a board file: its counts, and its checks in document 01's order.
+// The header of a board file: its counts, its next serial, and its checks in document 01's order.
 use crate::bytes::four_at;
 use crate::bytes::two_at;
 use crate::layout;
@@ -32,14 +32,21 @@ pub(crate) fn counts_of(s: &[u8]) -> Counts
     }
 }
 
+// The next serial in the header.
+pub(crate) fn next_of(s: &[u8]) -> Serial
+    requires { ⌜ headerSize ≤ length (now s) ⌝ }
+    ensures { λ r. ⌜ r .0 ≡ nextOf (now (s .entry)) ⌝ }
+{
+    Serial(four_at(s, layout::NEXT_AT))
+}
+
 // Whether the counts and the next serial are in their ranges.
 fn counts_right(s: &[u8]) -> bool
     requires { ⌜ headerSize ≤ length (now s) ⌝ }
     ensures { λ r. ⌜ r ≡ countsFit (countsOf (now (s .entry))) (nextOf (now (s .entry))) ⌝ }
 {
     let counts = counts_of(s);
-    let next = Serial(four_at(s, layout::NEXT_AT));
-    records::counts_fit(counts, next)
+    records::counts_fit(counts, next_of(s))
 }
 
 // Whether the offsets and the total are as laid out, and the total is the slice's length.

@@ -26,7 +26,7 @@ fn size_of(counts: Counts, part: u8) -> usize
     counts.duties as usize
 }
 
-// The fault of a record of a part.
+// The fault of the record of this number in a part.
 fn fault_at(s: &[u8], counts: Counts, part: u8, i: usize) -> u8
     requires { ⌜ Complete (now s) counts × (i < sizeOf counts part) ⌝ }
     ensures { λ r. ⌜ r ≡ faultAt (now (s .entry)) part i ⌝ }

@@ -4,13 +4,13 @@ use crate::fields::duty_at;
 use crate::fields::holding_at;
 use crate::fields::permission_at;
 use crate::fields::rule_at;
+use crate::header::next_of;
 use crate::layout;
 use board::Board;
 use board::Counts;
 use board::Duty;
 use board::Permission;
 use board::Rule;
-use board::Serial;
 ghost use mathlib.Core.Path.{_≡_};
 ghost use mathlib.Core.Bool.{true};
 ghost use Prim.Native.Nat.{_+_, _*_, _≤_};
@@ -23,6 +23,7 @@ ghost use Rattle.file.specs.Parts.{Complete};
 ghost use Rattle.file.specs.Records.{holdingAt, permissionAt, ruleAt, dutyAt};
 ghost use Rattle.file.specs.Reads.{filled, boardOf};
 
+// The holdings of the first n users.
 fn holdings_of(s: &[u8], n: usize) -> [u32; Board::USERS]
     requires { ⌜ (n ≤ maxUsers) × (holdingsFrom + n * holdingSize ≤ length (now s)) ⌝ }
     ensures { λ r. ⌜ r ≡ filled (holdingAt (now (s .entry))) 0 maxUsers n ⌝ }
@@ -37,6 +38,7 @@ fn holdings_of(s: &[u8], n: usize) -> [u32; Board::USERS]
     out
 }
 
+// The permissions.
 fn permissions_of(s: &[u8], counts: Counts) -> [Permission; Board::PERMISSIONS]
     requires { ⌜ Complete (now s) counts × (counts .permissions ≤ maxPermissions) ⌝ }
     ensures { λ r. ⌜
@@ -54,6 +56,7 @@ fn permissions_of(s: &[u8], counts: Counts) -> [Permission; Board::PERMISSIONS]
     out
 }
 
+// The rules.
 fn rules_of(s: &[u8], counts: Counts) -> [Rule; Board::RULES]
     requires { ⌜ Complete (now s) counts × (counts .rules ≤ maxRules) ⌝ }
     ensures { λ r. ⌜ r ≡ filled (ruleAt (now (s .entry))) noRule maxRules (counts .rules) ⌝ }
@@ -70,6 +73,7 @@ fn rules_of(s: &[u8], counts: Counts) -> [Rule; Board::RULES]
     out
 }
 
+// The duties.
 fn duties_of(s: &[u8], counts: Counts) -> [Duty; Board::DUTIES]
     requires { ⌜ Complete (now s) counts × (counts .duties ≤ maxDuties) ⌝ }
     ensures { λ r. ⌜ r ≡ filled (dutyAt (now (s .entry))) noDuty maxDuties (counts .duties) ⌝ }
@@ -92,7 +96,7 @@ pub(crate) fn board_of(s: &[u8], counts: Counts) -> Board
     ensures { λ r. ⌜ r ≡ boardOf (now (s .entry)) ⌝ }
 {
     let clock = four_at(s, layout::CLOCK_AT);
-    let next = Serial(four_at(s, layout::NEXT_AT));
+    let next = next_of(s);
     let holdings = holdings_of(s, counts.users as usize);
     let permissions = permissions_of(s, counts);
     let rules = rules_of(s, counts);

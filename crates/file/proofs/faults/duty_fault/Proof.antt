@@ -7,8 +7,8 @@ use Rattle.file.proofs.faults.duty_fault.Tie as tie
 duty-at-requires : tie.Need-duty-at-requires
 duty-at-requires c κs = search needs
 
-four-at-requires : tie.Need-four-at-requires
-four-at-requires c κs = search needs
+next-of-requires : tie.Need-next-of-requires
+next-of-requires c κs = search needs
 
 duty-fits-requires : tie.Need-duty-fits-requires
 duty-fits-requires c κs = search needs
@@ -24,15 +24,19 @@ fault-of-requires c κs = search needs
 
 returns : tie.Need-returns
 returns c =
+    let window = c .before .before in
+    let tested = window .before .before in
+    let read = tested .before .before in
+    let start = read .before .before in
     rw (
       c .fault-of .ensures,
       eq-eqb _ _ (c .before .if1 .taken),
-      c .before .before .window-fits .ensures,
-      c .before .before .before .second-fits .ensures,
-      c .before .before .before .before .duty-fits .ensures,
-      c .before .before .before .before .before .four-at .ensures,
-      c .before .before .before .before .before .before .duty-at .ensures,
-      c .before .before .before .before .before .before .before .before .pre .0,
+      window .window-fits .ensures,
+      window .before .second-fits .ensures,
+      tested .duty-fits .ensures,
+      tested .before .next-of .ensures,
+      read .duty-at .ensures,
+      start .pre .0,
     )
 
 sub-duty-at : tie.Need-sub-duty-at
@@ -49,17 +53,22 @@ fault-of-requires-2 c κs = search needs
 
 returns-2 : tie.Need-returns-2
 returns-2 c =
+    let later = c .before .before .before in
+    let window = later .before in
+    let tested = window .before .before in
+    let read = tested .before .before in
+    let start = read .before .before in
     rw (
       c .fault-of2 .ensures,
-      ne-eqb _ _ (c .before .before .before .if1 .left),
-      c .before .before .before .before .window-fits .ensures,
-      c .before .before .before .before .before .second-fits .ensures,
-      c .before .before .before .before .before .before .duty-fits .ensures,
-      c .before .before .before .before .before .before .before .four-at .ensures,
+      ne-eqb _ _ (later .if1 .left),
+      window .window-fits .ensures,
+      window .before .second-fits .ensures,
+      tested .duty-fits .ensures,
+      tested .before .next-of .ensures,
       c .before .duty-below .ensures,
-      c .before .before .before .before .before .before .before .before .duty-at .ensures,
+      read .duty-at .ensures,
       c .before .before .duty-at2 .ensures,
-      c .before .before .before .before .before .before .before .before .before .before .pre .0,
+      start .pre .0,
     )
 
 pub duty-fault-spec : {M : Type 1} → statement M
@@ -67,7 +76,7 @@ duty-fault-spec =
     tie.close
     (tie.spec
     duty-at-requires
-    four-at-requires
+    next-of-requires
     duty-fits-requires
     second-fits-requires
     window-fits-requires

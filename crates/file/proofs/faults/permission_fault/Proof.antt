@@ -15,12 +15,15 @@ fault-of-requires c κs = search needs
 
 returns : tie.Need-returns
 returns c =
+    let tested = c .before .before in
+    let read = tested .before in
+    let start = read .before .before in
     rw (
       c .fault-of .ensures,
       eq-eqb _ _ (c .before .if1 .taken),
-      c .before .before .permission-fits .ensures,
-      c .before .before .before .permission-at .ensures,
-      c .before .before .before .before .before .pre .0,
+      tested .permission-fits .ensures,
+      read .permission-at .ensures,
+      start .pre .0,
     )
 
 sub-permission-at : tie.Need-sub-permission-at
@@ -37,14 +40,18 @@ fault-of-requires-2 c κs = search needs
 
 returns-2 : tie.Need-returns-2
 returns-2 c =
+    let later = c .before .before .before in
+    let tested = later .before in
+    let read = tested .before in
+    let start = read .before .before in
     rw (
       c .fault-of2 .ensures,
-      ne-eqb _ _ (c .before .before .before .if1 .left),
-      c .before .before .before .before .permission-fits .ensures,
+      ne-eqb _ _ (later .if1 .left),
+      tested .permission-fits .ensures,
       c .before .permission-below .ensures,
-      c .before .before .before .before .before .permission-at .ensures,
+      read .permission-at .ensures,
       c .before .before .permission-at2 .ensures,
-      c .before .before .before .before .before .before .before .pre .0,
+      start .pre .0,
     )
 
 pub permission-fault-spec : {M : Type 1} → statement M

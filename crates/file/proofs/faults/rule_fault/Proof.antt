@@ -7,37 +7,28 @@ use Rattle.file.proofs.faults.rule_fault.Tie as tie
 rule-at-requires : tie.Need-rule-at-requires
 rule-at-requires c κs = search needs
 
-rules-from-requires : tie.Need-rules-from-requires
-rules-from-requires c κs = search needs
-
-mul-two-at : tie.Need-mul-two-at
-mul-two-at c = search needs
-
-add-two-at : tie.Need-add-two-at
-add-two-at c = search needs
-
-add-two-at-2 : tie.Need-add-two-at-2
-add-two-at-2 c = search needs
-
-two-at-requires : tie.Need-two-at-requires
-two-at-requires c κs = search needs
-
 rule-fits-requires : tie.Need-rule-fits-requires
 rule-fits-requires c κs = search needs
+
+rule-spare-requires : tie.Need-rule-spare-requires
+rule-spare-requires c κs = search needs
 
 fault-of-requires : tie.Need-fault-of-requires
 fault-of-requires c κs = search needs
 
 returns : tie.Need-returns
 returns c =
+    let spare = c .before .before in
+    let tested = spare .before in
+    let read = tested .before in
+    let start = read .before .before in
     rw (
       c .fault-of .ensures,
       eq-eqb _ _ (c .before .if1 .taken),
-      c .before .before .rule-fits .ensures,
-      c .before .before .before .two-at .ensures,
-      c .before .before .before .before .before .rule-at .ensures,
-      c .before .before .before .before .rules-from .ensures,
-      c .before .before .before .before .before .before .before .pre .0,
+      tested .rule-fits .ensures,
+      spare .rule-spare .ensures,
+      read .rule-at .ensures,
+      start .pre .0,
     )
 
 sub-rule-at : tie.Need-sub-rule-at
@@ -54,16 +45,20 @@ fault-of-requires-2 c κs = search needs
 
 returns-2 : tie.Need-returns-2
 returns-2 c =
+    let later = c .before .before .before in
+    let spare = later .before in
+    let tested = spare .before in
+    let read = tested .before in
+    let start = read .before .before in
     rw (
       c .fault-of2 .ensures,
-      ne-eqb _ _ (c .before .before .before .if1 .left),
-      c .before .before .before .before .rule-fits .ensures,
+      ne-eqb _ _ (later .if1 .left),
+      tested .rule-fits .ensures,
+      spare .rule-spare .ensures,
       c .before .rule-below .ensures,
-      c .before .before .before .before .before .two-at .ensures,
-      c .before .before .before .before .before .before .before .rule-at .ensures,
+      read .rule-at .ensures,
       c .before .before .rule-at2 .ensures,
-      c .before .before .before .before .before .before .rules-from .ensures,
-      c .before .before .before .before .before .before .before .before .before .pre .0,
+      start .pre .0,
     )
 
 pub rule-fault-spec : {M : Type 1} → statement M
@@ -71,12 +66,8 @@ rule-fault-spec =
     tie.close
     (tie.spec
     rule-at-requires
-    rules-from-requires
-    mul-two-at
-    add-two-at
-    add-two-at-2
-    two-at-requires
     rule-fits-requires
+    rule-spare-requires
     fault-of-requires
     returns
     sub-rule-at

@@ -56,17 +56,25 @@ four-at-requires-3 c κs = search needs
 
 returns : tie.Need-returns
 returns c =
+    let what = c .before .before in
+    let second = what .before in
+    let first = second .before in
+    let action = first .before in
+    let doer = action .before in
+    let serial = doer .before in
+    let from = serial .before in
+    let start = from .before .before in
     rw (
-      c .before .before .before .before .before .before .before .four-at .ensures,
-      c .before .before .before .before .before .before .two-at .ensures,
-      c .before .before .what-of .ensures,
-      c .before .before .before .before .before .two-at2 .ensures,
-      c .before .before .before .before .two-at3 .ensures,
-      c .before .before .before .two-at4 .ensures,
+      serial .four-at .ensures,
+      doer .two-at .ensures,
+      what .what-of .ensures,
+      action .two-at2 .ensures,
+      first .two-at3 .ensures,
+      second .two-at4 .ensures,
       c .before .four-at2 .ensures,
       c .four-at3 .ensures,
-      c .before .before .before .before .before .before .before .before .duties-from .ensures,
-      c .before .before .before .before .before .before .before .before .before .before .pre .0,
+      from .duties-from .ensures,
+      start .pre .0,
     )
 
 pub duty-at-spec : {M : Type 1} → statement M

@@ -29,12 +29,15 @@ two-at-requires-3 c κs = search needs
 
 returns : tie.Need-returns
 returns c =
+    let role = c .before .before in
+    let from = role .before in
+    let start = from .before .before in
     rw (
-      c .before .before .two-at .ensures,
+      role .two-at .ensures,
       c .before .two-at2 .ensures,
       c .two-at3 .ensures,
-      c .before .before .before .permissions-from .ensures,
-      c .before .before .before .before .before .pre .0,
+      from .permissions-from .ensures,
+      start .pre .0,
     )
 
 pub permission-at-spec : {M : Type 1} → statement M

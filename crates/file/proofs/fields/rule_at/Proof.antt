@@ -41,14 +41,19 @@ four-at-requires-2 c κs = search needs
 
 returns : tie.Need-returns
 returns c =
+    let role = c .before .before in
+    let actor = role .before in
+    let kind = actor .before in
+    let from = kind .before in
+    let start = from .before .before in
     rw (
-      c .before .before .before .before .two-at .ensures,
-      c .before .before .before .two-at2 .ensures,
-      c .before .before .two-at3 .ensures,
+      kind .two-at .ensures,
+      actor .two-at2 .ensures,
+      role .two-at3 .ensures,
       c .before .four-at .ensures,
       c .four-at2 .ensures,
-      c .before .before .before .before .before .rules-from .ensures,
-      c .before .before .before .before .before .before .before .pre .0,
+      from .rules-from .ensures,
+      start .pre .0,
     )
 
 pub rule-at-spec : {M : Type 1} → statement M

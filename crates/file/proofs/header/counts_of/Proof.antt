@@ -20,10 +20,13 @@ two-at-requires-5 c κs = search needs
 
 returns : tie.Need-returns
 returns c =
+    let permissions = c .before .before in
+    let roles = permissions .before in
+    let users = roles .before in
     rw (
-      c .before .before .before .before .two-at .ensures,
-      c .before .before .before .two-at2 .ensures,
-      c .before .before .two-at3 .ensures,
+      users .two-at .ensures,
+      roles .two-at2 .ensures,
+      permissions .two-at3 .ensures,
       c .before .two-at4 .ensures,
       c .two-at5 .ensures,
     )

@@ -50,17 +50,25 @@ total-of-requires c κs = search needs
 
 returns : tie.Need-returns
 returns c =
+    let duties-offset = c .before .before in
+    let rules-from = duties-offset .before in
+    let rules-offset = rules-from .before in
+    let permissions-from = rules-offset .before in
+    let permissions-offset = permissions-from .before in
+    let holdings-offset = permissions-offset .before in
+    let total = holdings-offset .before in
+    let counts = total .before in
     rw (
-      c .before .before .before .before .before .before .before .before .four-at .ensures,
-      c .before .before .before .before .before .before .before .four-at2 .ensures,
-      c .before .before .before .before .before .before .four-at3 .ensures,
-      c .before .before .before .before .four-at4 .ensures,
-      c .before .before .four-at5 .ensures,
-      c .before .before .before .before .before .permissions-from .ensures,
-      c .before .before .before .rules-from .ensures,
+      total .four-at .ensures,
+      holdings-offset .four-at2 .ensures,
+      permissions-offset .four-at3 .ensures,
+      rules-offset .four-at4 .ensures,
+      duties-offset .four-at5 .ensures,
+      permissions-from .permissions-from .ensures,
+      rules-from .rules-from .ensures,
       c .before .duties-from .ensures,
       c .total-of .ensures,
-      c .before .before .before .before .before .before .before .before .before .counts-of .ensures,
+      counts .counts-of .ensures,
     )
 
 pub laid-out-spec : {M : Type 1} → statement M
