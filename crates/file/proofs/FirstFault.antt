@@ -3,13 +3,15 @@
 -- fault can be, and what holds of a file without one.
 use mathlib.Core.Path.{_≡_, refl, sym, _∙_}
 use mathlib.Core.Logic.{inl, inr}
-use mathlib.Core.Bool.{Bool, true, false, _&&_, cond}
+use mathlib.Core.Bool.{Bool, true, false, _&&_, _||_, cond}
 use mathlib.Core.List.{List, [], _∷_, _++_, map, map-append}
 use Prim.Native.Nat.{ℕ, zero, suc, _+_, _<_}
 use native.Mathlib.Decide.{decLt}
 use native.Mathlib.Numerals.{add-one}
 use native.Mathlib.Omega.{arith}
 use lib.Dec.{eqb}
+use borrow.Author.Tests.{eqb-true, eqb-false}
+use Rattle.orders.proofs.Tests.{by-test}
 use Rattle.board.specs.Answers.{check, Answers}
 use Rattle.board.specs.Good as g
 use Rattle.board.specs.Numbers as answer
@@ -19,7 +21,7 @@ use Rattle.file.specs.Parts.{sizeOf, faultAt}
 use Rattle.file.specs.Reads.{recordChecks}
 use Rattle.file.specs.Records.{holdingAt, permissionAt, ruleAt, ruleSpare, dutyAt, secondFits, isAbove}
 use Rattle.file.specs.Records.{holdingFault, permissionFault, ruleFault, dutyFault}
-use Rattle.file.specs.Records.{faultOf, faults, orElse, firstOf, firstFault}
+use Rattle.file.specs.Records.{faultOf, faultNumbers, faults, orElse, firstOf, firstFault}
 
 -- ---- the first fault among numbered ones
 
@@ -107,21 +109,28 @@ first-by-parts s = simp (first-append, first-below, or-else-assoc)
 
 -- ---- what the first fault can be
 
-abbrev Known : ℕ → Type 0
-Known fault =
-    Answers
-    (check answer.field (fault ≡ answer.field)
-    ∷ (check answer.window (fault ≡ answer.window) ∷ (check answer.notAbove (fault ≡ answer.notAbove) ∷ [])))
-    fault
+-- a number that is among these, or 0, answers the checks whether it is one of them
+abbrev isOneOf : List ℕ → ℕ → Bool
+isOneOf [] fault = eqb fault answer.done
+isOneOf (number ∷ rest) fault = eqb fault number || isOneOf rest fault
 
-none-known : Known 0
-none-known = inr (λ e. omega arith, inr (λ e. omega arith, inr (λ e. omega arith, refl)))
+one-answers :
+    (numbers : List ℕ) (fault : ℕ) → isOneOf numbers fault ≡ true
+    → Answers (map (λ number. check number (fault ≡ number)) numbers) fault
+one-answers [] fault t = eqb-true fault answer.done t
+one-answers (number ∷ rest) fault t =
+    by-test (eqb fault number)
+    (λ is. let e = eqb-true fault number is in inl (e, e))
+    (λ other. inr (eqb-false fault number other, one-answers rest fault (rw other at t)))
+
+abbrev Known : ℕ → Type 0
+Known fault = isOneOf faultNumbers fault ≡ true
 
 fault-known : (fits window above : Bool) → Known (faultOf fits window above)
-fault-known false window above = inl (refl, refl)
-fault-known true false above = inr (λ e. omega arith, inl (refl, refl))
-fault-known true true false = inr (λ e. omega arith, inr (λ e. omega arith, inl (refl, refl)))
-fault-known true true true = none-known
+fault-known false window above = refl
+fault-known true false above = refl
+fault-known true true false = refl
+fault-known true true true = refl
 
 cond-keeps : (P : ℕ → Type 0) {a b : ℕ} (t : Bool) → P a → P b → P (cond t a b)
 cond-keeps P true p q = p
@@ -142,12 +151,14 @@ module _ (s : List ℕ) where
       (fault-known (g.dutyFits (n .users) (n .roles) (nextOf s) (dutyAt s i) && secondFits s i)
       (g.windowFits (dutyAt s i)) (isAbove g.dutyBelow (dutyAt s) i))))
 
-  pub fault-answers : Answers (recordChecks s) (firstFault s)
-  fault-answers =
+  first-known : Known (firstFault s)
+  first-known =
       rw (first-by-parts s)
-      (first-keeps (partFault s) Known none-known
-      (λ part.
-      first-keeps (faultAt s part) Known none-known (record-known part) (sizeOf (countsOf s) part)) 4)
+      (first-keeps (partFault s) Known refl
+      (λ part. first-keeps (faultAt s part) Known refl (record-known part) (sizeOf (countsOf s) part)) 4)
+
+  pub fault-answers : Answers (recordChecks s) (firstFault s)
+  fault-answers = one-answers faultNumbers (firstFault s) first-known
 
 -- ---- a file without a fault
 

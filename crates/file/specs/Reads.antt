@@ -14,7 +14,7 @@ use Rattle.board.specs.Permitted.{below}
 use Rattle.file.specs.declared.Reading.{Reading}
 use Rattle.file.specs.Bytes.{two, four}
 use Rattle.file.specs.Layout.{headerSize, countsOf, clockOf, nextOf, longest, laidOut}
-use Rattle.file.specs.Records.{holdingAt, permissionAt, ruleAt, dutyAt, firstFault}
+use Rattle.file.specs.Records.{holdingAt, permissionAt, ruleAt, dutyAt, faultNumbers, firstFault}
 
 -- the checks of the header
 abbrev pub headerChecks : List ℕ → List Check
@@ -25,11 +25,13 @@ headerChecks s =
     ∷ (check answer.layout (laidOut s ≡ false)
     ∷ (check answer.long (longest < four s 36) ∷ []))))
 
+-- the checks of a fault: whether it is this one, for each number of a fault
+abbrev pub faultChecks : ℕ → List Check
+faultChecks fault = map (λ number. check number (fault ≡ number)) faultNumbers
+
 -- the checks of the records: the first faulty one in file order decides
 abbrev pub recordChecks : List ℕ → List Check
-recordChecks s =
-    check answer.field (firstFault s ≡ answer.field)
-    ∷ (check answer.window (firstFault s ≡ answer.window) ∷ (check answer.notAbove (firstFault s ≡ answer.notAbove) ∷ []))
+recordChecks s = faultChecks (firstFault s)
 
 abbrev pub readChecks : List ℕ → List Check
 readChecks s = headerChecks s ++ recordChecks s
