@@ -99,11 +99,14 @@ module _ (fault : ℕ → ℕ) where
 
 -- ---- the parts
 
+abbrev pub partCount : ℕ
+partCount = 4
+
 -- the first fault of a part
 abbrev pub partFault : List ℕ → ℕ → ℕ
 partFault s part = firstIn (faultAt s part) (sizeOf (countsOf s) part)
 
-pub first-by-parts : (s : List ℕ) → firstFault s ≡ firstIn (partFault s) 4
+pub first-by-parts : (s : List ℕ) → firstFault s ≡ firstIn (partFault s) partCount
 unfolding faults
 first-by-parts s = simp (first-append, first-below, or-else-assoc)
 
@@ -155,7 +158,8 @@ module _ (s : List ℕ) where
   first-known =
       rw (first-by-parts s)
       (first-keeps (partFault s) Known refl
-      (λ part. first-keeps (faultAt s part) Known refl (record-known part) (sizeOf (countsOf s) part)) 4)
+      (λ part. first-keeps (faultAt s part) Known refl (record-known part) (sizeOf (countsOf s) part))
+      partCount)
 
   pub fault-answers : Answers (recordChecks s) (firstFault s)
   fault-answers = one-answers faultNumbers (firstFault s) first-known
@@ -177,7 +181,7 @@ no-fault s e =
       duties = none 3 (omega arith);
     }
   where
-    none : (part : ℕ) → part < 4 → (i : ℕ) → i < sizeOf (countsOf s) part → faultAt s part i ≡ 0
+    none : (part : ℕ) → part < partCount → (i : ℕ) → i < sizeOf (countsOf s) part → faultAt s part i ≡ 0
     none part h i k =
         none-below (faultAt s part) (sizeOf (countsOf s) part) i
-        (none-below (partFault s) 4 part (sym (first-by-parts s) ∙ e) h) k
+        (none-below (partFault s) partCount part (sym (first-by-parts s) ∙ e) h) k

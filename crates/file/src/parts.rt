@@ -10,6 +10,9 @@ ghost use Prim.Native.Nat.{_<_};
 ghost use Rattle.file.specs.Records.{firstFault};
 ghost use Rattle.file.specs.Parts.{Complete, sizeOf, faultAt};
 
+// How many parts there are.
+const PARTS: u8 = 4;
+
 // How many records a part has: 0 holdings, 1 permissions, 2 rules, 3 duties.
 fn size_of(counts: Counts, part: u8) -> usize
     ensures { λ r. ⌜ r ≡ sizeOf counts part ⌝ }
@@ -50,7 +53,7 @@ pub(crate) fn first_fault(s: &[u8], counts: Counts) -> u8
 {
     let mut fault = Answer::DONE;
     let mut part: u8 = 0;
-    'parts: while part < 4 {
+    'parts: while part < PARTS {
         let n = size_of(counts, part);
         let mut i: usize = 0;
         while i < n {

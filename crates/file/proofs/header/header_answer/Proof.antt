@@ -2,16 +2,13 @@
 use mathlib.Core.Path.{_≡_, refl, sym, _∙_}
 use mathlib.Core.Logic.{inl, inr}
 use mathlib.Core.Bool.{Bool, true, false, not}
-use mathlib.Core.List.{List, [], _∷_}
-use Prim.Native.Nat.{ℕ, _<_}
+use mathlib.Core.List.{List}
+use Prim.Native.Nat.{ℕ}
 use native.Mathlib.Omega.{arith}
+use lib.ListN.{drop}
 use borrow.Author.Tests.{not-true, not-false}
 use Rattle.orders.proofs.Tests.{clash}
-use Rattle.board.specs.Answers.{Check, check, Answers}
-use Rattle.board.specs.Good.{countsFit}
-use Rattle.board.specs.Numbers as answer
-use Rattle.file.specs.Bytes.{four}
-use Rattle.file.specs.Layout.{countsOf, nextOf, longest, laidOut}
+use Rattle.board.specs.Answers.{Check, Answers}
 use Rattle.file.specs.Reads.{headerChecks}
 use borrow.Author.Needs.{needs}
 use Rattle.file.proofs.header.header_answer.Statement.{statement}
@@ -24,14 +21,14 @@ passed : {result test : Bool} → result ≡ test → not result ≡ false → t
 passed {result} e n f = clash (sym e ∙ not-false result n) f
 
 -- the checks from one on
-abbrev fromLong : List ℕ → List Check
-fromLong s = check answer.long (longest < four s 36) ∷ []
+abbrev fromCount : List ℕ → List Check
+fromCount s = drop 2 (headerChecks s)
 
 abbrev fromLayout : List ℕ → List Check
-fromLayout s = check answer.layout (laidOut s ≡ false) ∷ fromLong s
+fromLayout s = drop 3 (headerChecks s)
 
-abbrev fromCount : List ℕ → List Check
-fromCount s = check answer.count (countsFit (countsOf s) (nextOf s) ≡ false) ∷ fromLayout s
+abbrev fromLong : List ℕ → List Check
+fromLong s = drop 4 (headerChecks s)
 
 abbrev bytes : tie.Else2 → List ℕ
 bytes c = c .before .before .before .before .args .s .now

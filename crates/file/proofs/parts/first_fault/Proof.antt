@@ -7,7 +7,7 @@ use native.Mathlib.Omega.{arith}
 use borrow.Author.Needs.{needs}
 use Rattle.file.specs.Layout.{countsOf}
 use Rattle.file.specs.Parts.{sizeOf, faultAt}
-use Rattle.file.proofs.FirstFault.{firstIn, partFault, none-next, first-is, first-by-parts}
+use Rattle.file.proofs.FirstFault.{firstIn, partCount, partFault, none-next, first-is, first-by-parts}
 use Rattle.file.proofs.parts.first_fault.Statement.{statement}
 use Rattle.file.proofs.parts.first_fault.Tie as tie
 
@@ -18,10 +18,11 @@ abbrev μ-loop : tie.MeasureT-loop
 μ-loop s counts fault₀ part n i₀ fault i = n - i
 
 abbrev Inv-parts : tie.InvT-parts
-Inv-parts s counts fault₀ part₀ fault part = (fault ≡ 0) × (part ≤ 4) × (firstIn (partFault s) part ≡ 0)
+Inv-parts s counts fault₀ part₀ fault part =
+    (fault ≡ 0) × (part ≤ partCount) × (firstIn (partFault s) part ≡ 0)
 
 abbrev μ-parts : tie.MeasureT-parts
-μ-parts s counts fault₀ part₀ fault part = 4 - part
+μ-parts s counts fault₀ part₀ fault part = partCount - part
 
 abbrev bytes : tie.After-size-of Inv-loop μ-loop Inv-parts μ-parts → List ℕ
 bytes c = c .before .before .before .before .args .s .now
@@ -78,7 +79,7 @@ parts-again c =
 returns : tie.Need-returns Inv-loop μ-loop Inv-parts μ-parts
 returns c =
     let parts = c .before .parts in
-    let all : parts .part ≡ 4 = omega arith in
+    let all : parts .part ≡ partCount = omega arith in
     parts .inv .0 ∙ sym (first-by-parts (c .before .before .before .args .s .now) ∙ rw all at (parts .inv .2))
 
 returns-2 : tie.Need-returns-2 Inv-loop μ-loop Inv-parts μ-parts
@@ -93,7 +94,8 @@ returns-2 c =
     let inside : l .i < sizeOf (countsOf s) part = omega (arith, size-is sized) in
     let of-part : partFault s part ≡ faultAt s part (l .i) = first-is _ _ (l .i) inside (l .inv .2) faulty in
     let none : partFault s part ≡ 0 → ⊥ = λ e. faulty (sym of-part ∙ e) in
-    let of-file = first-is (partFault s) 4 part (sized .before .parts-test .taken) (parts .inv .2) none in
+    let among = sized .before .parts-test .taken in
+    let of-file = first-is (partFault s) partCount part among (parts .inv .2) none in
     found ∙ sym (first-by-parts s ∙ of-file ∙ of-part)
 
 pub first-fault-spec : {M : Type 1} → statement M
