@@ -1,4 +1,5 @@
--- `permissions_from` meets its contract, by arithmetic: where another place is computed, the refusal shows it.
+-- `permissions_from` meets its contract, by arithmetic. Rattle would find it alone; stated, a wrong place is
+-- refused with the numbers that show it.
 use native.Mathlib.Omega.{arith}
 use borrow.Author.Needs.{needs}
 use Rattle.file.proofs.layout.permissions_from.Statement.{statement}
