@@ -1,9 +1,9 @@
 #!/usr/bin/env python3
 """make.py: writes what sample_lines and tick are run on, and what they have to print. Needs Python 3 alone.
 
-The lines are not taken from a run. Each stands below beside the input that it is for, with the reason: the marked
-cases and the numbers of document 01, or the way the input is made. Where a board is red it has one failing order
-only, or it is a marked case, whose order document 01 prints.
+The lines are not taken from a run. Each stands below beside the input that it is for, with the reason: the
+marked cases and the numbers of document 01, or the way the input is made. Where a board is red it has one
+failing order only, or it is a marked case, whose order document 01 prints.
 
 sample_lines reads each input with its length before it, in 4 bytes, and prints a line for each."""
 import os
@@ -13,23 +13,24 @@ HERE = os.path.dirname(os.path.abspath(__file__))
 SAMPLES = os.path.join(HERE, '..', '..', 'samples')
 TICK = os.path.join(HERE, '..', 'tick')
 
-# The sample boards. caseN is case N of document 01 (6b and 9b are the second boards of cases 6 and 9); it prints the
-# verdict and the order, and the number of duties is counted there. On the Saturday, 1 is Mia's use of the bench role
-# and 2 takes that role from her inside her window: in the order 1 2 both are permitted, in 2 1 the use is not. Mended,
-# 2 starts after the end of 1, so 1 2 is the only order.
+# The sample boards. caseN is case N of document 01 (6b and 9b are the second boards of cases 6 and 9); it
+# prints the verdict and the order, and the number of duties is counted there. On the Saturday, 1 is Mia's use
+# of the bench role and 2 takes that role from her inside her window: in the order 1 2 both are permitted, in
+# 2 1 the use is not. Mended, 2 starts after the end of 1, so 1 2 is the only order.
 SAMPLE_LINES = {
-    'case1': 'yes 0', 'case2': 'yes 2', 'case3': 'no 1 2', 'case4': 'yes 2', 'case5': 'no 2 1 2', 'case6': 'no 2 2 1',
-    'case6b': 'yes 2', 'case7': 'yes 3', 'case8': 'no 3 2 1 3', 'case9': 'yes 2', 'case9b': 'no 1 2',
-    'case10': 'no 1 1', 'case11': 'no 2 1 2', 'saturday': 'no 2 2 1', 'saturday-mended': 'yes 2',
+    'case1': 'yes 0', 'case2': 'yes 2', 'case3': 'no 1 2', 'case4': 'yes 2', 'case5': 'no 2 1 2',
+    'case6': 'no 2 2 1', 'case6b': 'yes 2', 'case7': 'yes 3', 'case8': 'no 3 2 1 3', 'case9': 'yes 2',
+    'case9b': 'no 1 2', 'case10': 'no 1 1', 'case11': 'no 2 1 2',
+    'saturday': 'no 2 2 1', 'saturday-mended': 'yes 2',
 }
 
-GRANT, REVOKE = 0, 1
+GRANT = 0
 ASSIGN_RULE, REVOKE_RULE = 0, 1
 LAST_SERIAL = 4294967294
 
 
 def board(holdings, roles, permissions, rules, duties, clock=0, next_serial=None, version=1):
-    """A board file by document 01's layout: tuples of fields in file order. Whether it is a good one is not tested."""
+    """A board file by document 01's layout: tuples of fields in file order. It need not be a good one."""
     if next_serial is None:
         next_serial = duties[-1][0] + 1 if duties else 1
     parts = [b''.join(struct.pack('<I', holding) for holding in holdings),
@@ -47,8 +48,8 @@ def board(holdings, roles, permissions, rules, duties, clock=0, next_serial=None
 def small(holdings=(1, 2), roles=2, permissions=((1, 2, 0), (1, 3, 5)),
           rules=((ASSIGN_RULE, 0, 1, 0, 0, 0), (REVOKE_RULE, 0, 1, 0, 0, 0)),
           duties=((1, 1, 2, 0, 0, 5, 9), (2, 1, 3, 5, 0, 5, 9)), **header):
-    """A green board unless something is changed: user 0 holds role 0, user 1 holds role 1 and is to use it twice,
-    where the two permissions allow it; nobody grants or revokes."""
+    """A green board unless something is changed: user 0 holds role 0, user 1 holds role 1 and is to use it
+    twice, where the two permissions allow it; nobody grants or revokes."""
     return board(holdings, roles, permissions, rules, duties, **header)
 
 
@@ -60,24 +61,25 @@ def with_bytes(data, at, form, *values):
 
 
 def full(duties, next_serial=None):
-    """Every count at its limit: each user holds each role, there is a permission for each object and the actions 2 and
-    3, and role 0 assigns and revokes each role without condition."""
+    """Every count at its limit: each user holds each role, there is a permission for each object and the
+    actions 2 and 3, and role 0 assigns and revokes each role without condition."""
     return board([0xFFFFFFFF] * 64, 32,
                  [(index % 32, 2 + index // 256, index % 256) for index in range(512)],
                  [(kind, 0, role, 0, 0, 0) for kind in (ASSIGN_RULE, REVOKE_RULE) for role in range(32)],
                  duties, next_serial=next_serial)
 
 
-# 64 uses that a permission allows and 64 grants of roles that everyone holds: no duty takes a holding away, so each is
-# permitted at every point of every order.
+# 64 uses that a permission allows and 64 grants of roles that everyone holds: no duty takes a holding away,
+# so each is permitted at every point of every order.
 FULL_GREEN = full([(serial, serial % 64, 2, serial, 0, serial, 1000) if serial % 2 == 0 else
                    (serial, serial % 64, GRANT, serial % 64, serial % 32, serial, 1000)
                    for serial in range(1, 129)])
 
-# One after the other, so that there is one order only: 127 uses that a permission allows, then one of action 4, for
-# which there is no permission. The whole order fails. The serials are the largest ones.
+# One after the other, so that there is one order only: 127 uses that a permission allows, then one of action
+# 4, for which there is no permission. The whole order is the failing one. The serials are the largest ones.
 CHAIN = [LAST_SERIAL - 127 + place for place in range(128)]
-FULL_RED = full([(serial, 0, 2 if place < 127 else 4, place, 0, place, place) for place, serial in enumerate(CHAIN)])
+FULL_RED = full([(serial, 0, 2 if place < 127 else 4, place, 0, place, place)
+                 for place, serial in enumerate(CHAIN)])
 
 GOOD = small()
 PERMISSIONS_AT, RULES_AT, DUTIES_AT = 48, 60, 92
@@ -152,14 +154,17 @@ EXTRA = {
     # 6: a record not above the one before it
     'permissions falling by action': (small(permissions=((1, 3, 5), (1, 2, 9))), 'refused 6'),
     'one permission twice': (small(permissions=((1, 2, 0), (0, 2, 0))), 'refused 6'),
-    'one rule twice': (small(rules=((ASSIGN_RULE, 0, 1, 0, 0, 0), (ASSIGN_RULE, 1, 1, 0, 0, 0))), 'refused 6'),
-    'rules falling by kind': (small(rules=((REVOKE_RULE, 0, 0, 0, 0, 0), (ASSIGN_RULE, 0, 1, 0, 0, 0))), 'refused 6'),
+    'one rule twice':
+        (small(rules=((ASSIGN_RULE, 0, 1, 0, 0, 0), (ASSIGN_RULE, 1, 1, 0, 0, 0))), 'refused 6'),
+    'rules falling by kind':
+        (small(rules=((REVOKE_RULE, 0, 0, 0, 0, 0), (ASSIGN_RULE, 0, 1, 0, 0, 0))), 'refused 6'),
     'one serial twice': (small(duties=[(1, 1, 2, 0, 0, 5, 9), (1, 1, 2, 0, 0, 5, 9)]), 'refused 6'),
     # 7: start after end
     'start after end': (small(duties=[(1, 1, 2, 0, 0, 9, 8)]), 'refused 7'),
     # within a record 5 is tried, then 7, then 6; of two faulty records the first in file order counts
     'duty with 5 and 7': (small(duties=[(1, 2, 2, 0, 0, 9, 8)]), 'refused 5'),
-    'duty with 7 and 6': (small(duties=[(2, 1, 2, 0, 0, 5, 9), (2, 1, 2, 0, 0, 9, 8)], next_serial=3), 'refused 7'),
+    'duty with 7 and 6':
+        (small(duties=[(2, 1, 2, 0, 0, 5, 9), (2, 1, 2, 0, 0, 9, 8)], next_serial=3), 'refused 7'),
     'permission with 6, then a duty with 5':
         (small(permissions=((1, 2, 0), (1, 2, 0)), duties=[(1, 2, 2, 0, 0, 5, 9)]), 'refused 6'),
     # a faulty file is no board: the fault counts, and not that the duties could fail

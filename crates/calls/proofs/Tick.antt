@@ -1,6 +1,6 @@
--- The tick of open: it answers 0 exactly if the lent list is long enough, no check of reading the file applies,
--- and the board that the file says is green; it answers 8 exactly if that board is red instead. An accepted file's
--- board is good and green.
+-- The tick of open: it answers 0 exactly if the lent list is long enough, no check of reading the file
+-- applies, and the board that the file says is green; it answers 8 exactly if that board is red instead. An
+-- accepted file's board is good and green.
 use mathlib.Core.Path.{_≡_, refl, sym, subst}
 use mathlib.Core.Logic.{_↔_, inl, inr}
 use mathlib.Core.Bool.{true, not}

@@ -1,5 +1,5 @@
--- What write_line promises settles its outcome: two outcomes that keep the promise are the same bytes and the same
--- length.
+-- What write_line promises settles its outcome: two outcomes that keep the promise are the same bytes and the
+-- same length.
 use mathlib.Core.Path.{_≡_}
 use mathlib.Core.List.{List}
 use Prim.Native.Nat.{ℕ}

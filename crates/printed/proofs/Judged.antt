@@ -1,9 +1,10 @@
--- The bytes of an input that are judged, and the line made of what open answers on them.
-use mathlib.Core.Path.{_≡_, subst, _∙_}
+-- The bytes of an input that are judged, the line made of what open answers on them, and its length.
+use mathlib.Core.Path.{_≡_, sym, subst, _∙_}
 use mathlib.Core.List.{List}
 use Prim.Native.Nat.{ℕ, _+_, _≤_, min}
 use native.Mathlib.Omega.{arith}
 use lib.ListN.{length, take, length-take}
+use lib.Seq.{length-take-le}
 use Rattle.file.specs.Layout.{longest}
 use Rattle.line.specs.Line.{lineOf, Put}
 use Rattle.line.proofs.NumberLaws.{take-min}
@@ -31,3 +32,7 @@ module _ (input : List ℕ) (n : ℕ) (judged : n ≡ length (cut input)) where
         opens = subst (λ (s : List ℕ). Opens s lentList list opened) first-bytes o;
         line = l;
       }
+
+-- as many bytes as are answered stand in the room
+pub line-length : {input before after : List ℕ} {n : ℕ} → Printed input before after n → n ≡ length (take n after)
+line-length {after = after} {n = n} p = sym (length-take-le n after (omega arith))

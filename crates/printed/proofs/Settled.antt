@@ -1,5 +1,5 @@
--- What line_for promises settles its outcome: two outcomes that keep the promise are the same bytes and the same
--- length, once the failing order is chosen. (With 8 that choice is free among true ones:
+-- What line_for promises settles its outcome: two outcomes that keep the promise are the same bytes and the
+-- same length, once the failing order is chosen. (With 8 that choice is free among true ones:
 -- docs/FAILING-ORDERS.md. With every other number there is nothing to choose.)
 use mathlib.Core.Path.{_≡_, subst}
 use mathlib.Core.List.{List}
@@ -8,9 +8,8 @@ use Rattle.board.proofs.ToldLaws.{OneOrder}
 use Rattle.line.specs.Line.{lineOf, Put}
 use Rattle.line.proofs.Settled.{same-line}
 use Rattle.calls.specs.declared.Opened.{Opened}
-use Rattle.calls.specs.Opens.{Opens}
 use Rattle.calls.proofs.Settled.{same-board, same-opening}
-use Rattle.printed.specs.Printed.{cut, lentList, Printed}
+use Rattle.printed.specs.Printed.{Printed}
 
 -- the line of what was opened
 abbrev lineFor : Opened → List ℕ → List ℕ
@@ -22,14 +21,11 @@ module _
   where
     same-bytes : lineFor (p .opened) (p .list) ≡ lineFor (q .opened) (q .list)
     same-bytes =
-        let board =
-        same-board (cut input) lentList (p .list) (q .list) (p .opened) (q .opened) (p .opens) (q .opens) in
-        let opening =
-        same-opening (cut input) lentList (p .list) (q .list) (p .opened) (q .opened) (p .opens) (q .opens) one in
+        let board = same-board _ _ _ _ (p .opened) (q .opened) (p .opens) (q .opens) in
+        let opening = same-opening _ _ _ _ (p .opened) (q .opened) (p .opens) (q .opens) one in
         λ i. lineOf (opening .0 i) (board i .counts .duties) (opening .1 i)
 
     pub same-printed : (after ≡ after′) × (n ≡ n′)
     same-printed =
         let line = subst (λ (l : List ℕ). Put l before 0 after n) same-bytes (p .line) in
-        same-line (q .opened .answer) (q .opened .board .counts .duties) (q .list) before after after′ n n′ line
-        (q .line)
+        same-line (q .opened .answer) (q .opened .board .counts .duties) (q .list) _ _ _ _ _ line (q .line)

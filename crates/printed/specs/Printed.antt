@@ -17,8 +17,8 @@ abbrev pub lentList : List ℕ
 lentList = replicate maxDuties 0
 
 -- The line of what open answers on the input so cut: `yes` and the number of duties; `no`, the length of the
--- order and its serials; or `refused` and the number. It stands at the start of the room, the rest of which is
--- untouched, and n is its length.
+-- order and its serials; or `refused` and the number. It stands at the start of the room, the rest of which
+-- is untouched, and n is its length.
 pub record Printed (input before after : List ℕ) (n : ℕ) : Type 0 where
   pub opened : Opened
   pub list : List ℕ

@@ -9,7 +9,11 @@ ghost use Rattle.printed.specs.Printed.{cut, Printed};
 fn cut_length(input: &[u8]) -> usize
     ensures { λ r. ⌜ r ≡ length (cut (now (input .entry))) ⌝ }
 {
-    if file::LONGEST < input.len() { file::LONGEST + 1 } else { input.len() }
+    if file::LONGEST < input.len() {
+        file::LONGEST + 1
+    } else {
+        input.len()
+    }
 }
 
 // Write the line for an input to the start of the room, and answer its length.

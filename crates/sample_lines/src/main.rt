@@ -18,12 +18,11 @@ fn number(s: &[u8; 4]) -> usize {
     wide(s[0]) + wide(s[1]) * 256 + wide(s[2]) * 65536 + wide(s[3]) * 16777216
 }
 
-// Read an input of n bytes and print its line.
-fn print_line(n: usize) {
-    let mut room = [0u8; ROOM];
-    let read = io::read_full(0, &mut room[..n]);
+// Fill the room with an input and print its line.
+fn print_line(room: &mut [u8]) {
+    let n = io::read_full(0, room);
     let mut out = [0u8; line::ROOM];
-    let k = printed::line_for(&room[..read], &mut out);
+    let k = printed::line_for(&room[..n], &mut out);
     io::write_all(1, &out[..k]);
 }
 
@@ -31,11 +30,15 @@ fn print_line(n: usize) {
 fn next() -> bool {
     let mut length = [0u8; 4];
     let read = io::read_full(0, &mut length);
-    let n = number(&length);
-    if (read < 4) | (ROOM < n) {
+    if read < 4 {
         return false;
     }
-    print_line(n);
+    let n = number(&length);
+    if ROOM < n {
+        return false;
+    }
+    let mut room = [0u8; ROOM];
+    print_line(&mut room[..n]);
     true
 }
 

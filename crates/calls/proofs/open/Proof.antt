@@ -68,12 +68,12 @@ returns-3 c =
     _
     _
     (room read)
-    (accepted read)
     _
-    (is-said read)
     _
     (judged .check .result)
     (judged .check .ensures)
+    (accepted read)
+    (is-said read)
     (c .before .if3 .taken)
     (c .smallest .result)
     (c .smallest .ensures)
@@ -89,12 +89,12 @@ returns-4 c =
     _
     _
     (room read)
-    (accepted read)
     _
-    (is-said read)
     _
     (judged .check .result)
     (judged .check .ensures)
+    (accepted read)
+    (is-said read)
     (c .if3 .left)
 
 pub open-spec : {M : Type 1} → statement M

@@ -1,8 +1,6 @@
 -- `tick::main` is safe and ends: what is read and what is written lie within their rooms.
-use mathlib.Core.Path.{sym}
-use native.Mathlib.Omega.{arith}
-use lib.Seq.{length-take-le}
 use borrow.Author.Needs.{needs}
+use Rattle.printed.proofs.Judged.{line-length}
 use Rattle.tick.proofs.main.Statement.{statement}
 use Rattle.tick.proofs.main.Tie as tie
 
@@ -25,9 +23,7 @@ array-share-prefix-out : tie.Need-array-share-prefix-out
 array-share-prefix-out c = search needs
 
 slice-aggregate-write-all : tie.Need-slice-aggregate-write-all
-slice-aggregate-write-all c =
-    let w = c .before .line-for in
-    sym (length-take-le (w .result) (w .last .1 .0) (omega (arith, w .ensures .line .fits, w .ensures .line .kept)))
+slice-aggregate-write-all c = line-length (c .before .line-for .ensures)
 
 write-all-requires : tie.Need-write-all-requires
 write-all-requires c κs = search needs
