@@ -1,6 +1,6 @@
 -- The word that a line begins with tells the kind of answer: `yes` exactly with 0, `no` exactly with 8, and
 -- `refused` exactly with every other number. The words differ in their first letter.
-use mathlib.Core.Path.{_≡_, refl, ap}
+use mathlib.Core.Path.{_≡_, ap}
 use mathlib.Core.Logic.{_↔_, _⊎_, inl, inr, ⊎-elim}
 use mathlib.Core.List.{List, [], _∷_, _++_}
 use Prim.Native.Nat.{ℕ, min}
@@ -14,6 +14,7 @@ use Rattle.board.specs.Limits.{maxDuties}
 use Rattle.board.specs.Numbers as answer
 use Rattle.line.specs.Line.{numbers, yes, no, refused, newline, lineOf}
 
+-- the first bytes of the line are those of the word
 abbrev pub Begins : List ℕ → List ℕ → Type 0
 Begins word line = take (length word) line ≡ word
 

@@ -18,19 +18,20 @@ digits (suc k) n = cond (ltb n 10) ((48 + n) ∷ []) (digits k (n / 10) ++ ((48 
 abbrev pub maxDigits : ℕ
 maxDigits = 20
 
--- those of a number of 64 bits
+-- the decimal digits of a number of 64 bits
 unfoldable pub decimal : ℕ → List ℕ
 decimal n = digits maxDigits n
 
--- each number with a space before it; at most this many bytes for one number
+-- a number with a space before it takes at most this many bytes
 abbrev pub maxNumber : ℕ
 maxNumber = 1 + maxDigits
 
+-- each number with a space before it
 abbrev pub numbers : List ℕ → List ℕ
 numbers [] = []
 numbers (n ∷ l) = 32 ∷ (decimal n ++ numbers l)
 
--- the words, in ASCII, the most bytes of one, and the newline
+-- the words, in ASCII
 abbrev pub yes : List ℕ
 yes = 121 ∷ 101 ∷ 115 ∷ []
 
@@ -40,6 +41,7 @@ no = 110 ∷ 111 ∷ []
 abbrev pub refused : List ℕ
 refused = 114 ∷ 101 ∷ 102 ∷ 117 ∷ 115 ∷ 101 ∷ 100 ∷ []
 
+-- the most bytes of a word
 abbrev pub maxWord : ℕ
 maxWord = 7
 

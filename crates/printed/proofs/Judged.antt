@@ -34,5 +34,6 @@ module _ (input : List ℕ) (n : ℕ) (judged : n ≡ length (cut input)) where
       }
 
 -- as many bytes as are answered stand in the room
-pub line-length : {input before after : List ℕ} {n : ℕ} → Printed input before after n → n ≡ length (take n after)
+pub line-length :
+    {input before after : List ℕ} {n : ℕ} → Printed input before after n → n ≡ length (take n after)
 line-length {after = after} {n = n} p = sym (length-take-le n after (omega arith))

@@ -1,7 +1,7 @@
 -- What the line says of an input (document 01: "`yes` and the number of duties; `no`, the length of the order
 -- and its serials; or `refused` and the number"): it begins with `yes` exactly if the file is accepted and
--- green, with `no` exactly if it is accepted but for being red, and with `refused` exactly if a check of reading
--- it applies. After `yes` stands the number of duties that the file says.
+-- green, with `no` exactly if it is accepted but for being red, and with `refused` exactly if a check of
+-- reading it applies. After `yes` stands the number of duties that the file says.
 use mathlib.Core.Path.{_≡_, sym, ap, subst, _∙_}
 use mathlib.Core.Logic.{_↔_, ⊎-elim}
 use mathlib.Core.List.{List, [], _∷_, _++_}

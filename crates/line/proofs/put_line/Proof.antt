@@ -1,5 +1,5 @@
--- Word, number, numbers of the list and newline are put one after the other, and each has room: a word takes
--- at most 7 bytes, and a number with its space at most 21.
+-- Word, number, numbers of the list and newline are put one after the other, and each has room, since words
+-- and numbers are no longer than maxWord and maxNumber.
 use mathlib.Core.List.{[], _∷_, append-nil}
 use native.Mathlib.Omega.{arith}
 use borrow.Author.Needs.{needs}

@@ -35,7 +35,8 @@ same-length c = search needs
 returns : tie.Need-returns
 returns c =
     let after-digits = c .before .before in
-    let after-space = after-digits .before .before .before .before .before .before in
+    let before-digits = after-digits .before .before .before in
+    let after-space = before-digits .before .before .before in
     let spelt = after-space .before .before .before .before .spell in
     rw (append-nil, ← spelt .ensures .1) (put-then (after-space .put .ensures) (after-digits .put2 .ensures))
 
