@@ -2,7 +2,9 @@ pub mod Tests
 pub mod Lists
 pub mod Loops
 pub mod Build
-pub mod Lines
+pub mod Beginnings
+pub mod Early
+pub mod Trails
 pub mod Steps
 pub mod Cuts
 pub mod Failing
@@ -13,5 +15,5 @@ pub mod Decide
 pub mod Fact
 pub mod Walks
 pub mod Lengths
-pub mod LineFails
+pub mod TrailFails
 pub mod Clock

@@ -22,7 +22,7 @@ ghost use Rattle.verdict.specs.Judging.{Troubled, Judged};
 ghost use Rattle.verdict.specs.Tests.{granted, revoked, most, least, canBeMet};
 ghost use Rattle.verdict.specs.Tests.{needsHeld, needsFree, needsOpposite};
 ghost use Rattle.verdict.specs.Tests.{undoes, opposes, heals, harms, firstPlace};
-ghost use Rattle.verdict.specs.Walking.{inLine, doOne, doAll, Room, InRange, lineCut, Written};
+ghost use Rattle.verdict.specs.Walking.{inTrail, doOne, doAll, Room, InRange, trailCut, Written};
 
 // A place of the pool, or none.
 enum Place {
@@ -297,9 +297,9 @@ struct Walk {
     pub stuck: bool,
 }
 
-// Whether y stands early in the line of x and d, or between the two.
-fn in_line(y: Duty, x: Duty, d: Duty, late: bool) -> bool
-    ensures { λ r. ⌜ r ≡ inLine late x d y ⌝ }
+// Whether y stands early in the trail of x and d, or between the two.
+fn in_trail(y: Duty, x: Duty, d: Duty, late: bool) -> bool
+    ensures { λ r. ⌜ r ≡ inTrail late x d y ⌝ }
 {
     let own = y.serial;
     let other = x.serial;
@@ -340,7 +340,7 @@ fn do_one(b: Board, y: Duty, walk: Walk, list: &mut [u32]) -> Walk
     }
 }
 
-// Do those duties of the pool, in its order, that stand early in the line of x and d, or between the two.
+// Do those duties of the pool, in its order, that stand early in the trail of x and d, or between the two.
 fn do_part(
     b: Board,
     pool: [Duty; Board::DUTIES],
@@ -351,15 +351,16 @@ fn do_part(
     walk: Walk,
     list: &mut [u32],
 ) -> Walk
-    requires { ⌜ (n ≤ maxDuties) × Room b (walk, now list) (keep (inLine late x d) (take n pool)) ⌝ }
+    requires { ⌜ (n ≤ maxDuties) × Room b (walk, now list) (keep (inTrail late x d) (take n pool)) ⌝ }
     ensures { λ r.
-        ⌜ (r, now (list .exit)) ≡ doAll b (walk, now (list .entry)) (keep (inLine late x d) (take n pool)) ⌝ }
+        ⌜ (r, now (list .exit))
+        ≡ doAll b (walk, now (list .entry)) (keep (inTrail late x d) (take n pool)) ⌝ }
 {
     let mut out = walk;
     let mut k: usize = 0;
     while k < n {
         let y = pool[k];
-        if in_line(y, x, d, late) {
+        if in_trail(y, x, d, late) {
             let next = do_one(b, y, out, list);
             out = next;
         }
@@ -368,8 +369,8 @@ fn do_part(
     out
 }
 
-// Do the line of x and d until a duty is not permitted: the serials stand at the start of the list, and their
-// number is answered.
+// Do the trail of x and d until a duty is not permitted: the serials stand at the start of the list, and
+// their number is answered.
 fn write_order(
     b: Board,
     pool: [Duty; Board::DUTIES],
@@ -379,8 +380,8 @@ fn write_order(
     list: &mut [u32],
 ) -> usize
     requires { ⌜ (n ≤ maxDuties) × InRange (x ∷ (d ∷ take n pool))
-        × (length (lineCut b (take n pool) x d) ≤ length (now list)) ⌝ }
-    ensures { λ r. ⌜ Written (lineCut b (take n pool) x d) (now (list .entry)) (now (list .exit)) r ⌝ }
+        × (length (trailCut b (take n pool) x d) ≤ length (now list)) ⌝ }
+    ensures { λ r. ⌜ Written (trailCut b (take n pool) x d) (now (list .entry)) (now (list .exit)) r ⌝ }
 {
     let holdings = b.holdings;
     let start = Walk {
