@@ -75,13 +75,12 @@ loop-again c =
     let turn = c .before .before .before in
     let known = turn .before .loop .inv .1 in
     let h = within turn in
-    let other = sym (ap not (c .before .has-serial .ensures)) in
-    (
+    let other = sym (ap not (c .before .has-serial .ensures)) in (
       omega arith,
       ⊎-elim
-      (λ w. rw (w .1, w .2) (written known _ (omega arith) (omega arith) (other ∙ w .0 .taken)))
-      (λ w. rw (w .1, w .2) (passed-over known _ (omega arith) (other ∙ w .0 .left)))
-      (c .if1 .came),
+          (λ w. rw (w .1, w .2) (written known _ (omega arith) (omega arith) (other ∙ w .0 .taken)))
+          (λ w. rw (w .1, w .2) (passed-over known _ (omega arith) (other ∙ w .0 .left)))
+          (c .if1 .came),
     )
 
 returns : tie.Need-returns Inv-loop μ-loop
