@@ -1,5 +1,6 @@
 -- `acted` is right: the holdings are changed as `make_change` says, the clock is the given one, and the rest is
 -- taken over.
+use mathlib.Core.Path.{refl}
 use borrow.Author.Needs.{needs}
 use Rattle.after.specs.Boards.{actedBoard}
 use Rattle.after.proofs.acted.Statement.{statement}
@@ -10,7 +11,7 @@ make-change-requires c κs = search needs
 
 returns : tie.Need-returns
 unfolding actedBoard
-returns c = rw (c .before .before .before .before .before .make-change .ensures)
+returns c = rw (← c .before .before .before .before .before .make-change .ensures) refl
 
 pub acted-spec : {M : Type 1} → statement M
 acted-spec = tie.close (tie.spec make-change-requires returns)

@@ -1,5 +1,6 @@
 -- `withdrawn` is right: the duties and their count are those that `without_serial` leaves, the clock is the given
 -- one, and the rest is taken over.
+use mathlib.Core.Path.{refl}
 use borrow.Author.Needs.{needs}
 use Rattle.after.specs.Boards.{withdrawnBoard}
 use Rattle.after.proofs.withdrawn.Statement.{statement}
@@ -15,7 +16,7 @@ returns : tie.Need-returns
 unfolding withdrawnBoard
 returns c =
     let rest = c .before .before .before .before .before .without-serial .ensures in
-    rw (rest .0, rest .1)
+    rw (← rest .0, ← rest .1) refl
 
 pub withdrawn-spec : {M : Type 1} → statement M
 withdrawn-spec = tie.close (tie.spec cast-n without-serial-requires returns)
