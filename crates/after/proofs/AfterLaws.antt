@@ -15,7 +15,8 @@ use Rattle.board.specs.Limits.{maxUsers, maxPermissions, maxRules, maxDuties}
 use Rattle.board.specs.Permitted.{changed}
 use Rattle.board.specs.Saying.{padded, boardSaying}
 use Rattle.board.specs.View.{view}
-use Rattle.board.proofs.GoodLaws.{good→filler, filler→beyond}
+use Rattle.board.proofs.FillerLaws.{filler→beyond}
+use Rattle.board.proofs.GoodLaws.{good→filler}
 use Rattle.board.proofs.SayingLaws.{view-fits, saying-view}
 use Rattle.acts.proofs.Laws.{changed-length, changed-take, changed-drop}
 use Rattle.after.specs.Boards.{actedBoard, withdrawnBoard}

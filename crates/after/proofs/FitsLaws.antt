@@ -18,7 +18,9 @@ use Rattle.board.specs.Good.{setFits, whatFits}
 use Rattle.board.specs.Limits.{maxDuties, maxNext}
 use Rattle.board.specs.Permitted.{changed}
 use Rattle.board.specs.View.{View}
-use Rattle.board.proofs.GoodLaws.{DutyInRange, Part, RecordsInRange, records→range, range→records}
+use Rattle.board.proofs.GoodLaws.{RecordsInRange, records→range, range→records}
+use Rattle.board.proofs.InRange.{DutyInRange}
+use Rattle.board.proofs.Rising.{Part}
 use Rattle.board.proofs.SayingLaws.{ViewFits}
 use Rattle.acts.proofs.Laws.{changed-length, changed-fits}
 

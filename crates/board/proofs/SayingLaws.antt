@@ -13,8 +13,10 @@ use Rattle.board.specs.Good.{good, recordsFit}
 use Rattle.board.specs.Limits.{maxUsers, maxRoles, maxPermissions, maxRules, maxDuties, maxNext}
 use Rattle.board.specs.Saying.{padded, boardSaying}
 use Rattle.board.specs.View.{View, view}
-use Rattle.board.proofs.GoodLaws.{CountsInRange, FillerBeyond, Beyond}
-use Rattle.board.proofs.GoodLaws.{good→counts, good→records, beyond→filler, parts→good}
+use Rattle.board.proofs.FillerLaws.{FillerBeyond, Beyond}
+use Rattle.board.proofs.InRange.{CountsInRange}
+use Rattle.board.proofs.FillerLaws.{beyond→filler}
+use Rattle.board.proofs.GoodLaws.{good→counts, good→records, parts→good}
 use Rattle.board.proofs.ViewLaws.{same-view}
 
 -- what a good board value says: in range, with room, by the rules of the file's records

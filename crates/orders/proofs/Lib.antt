@@ -1,6 +1,7 @@
 pub mod Tests
 pub mod Lists
 pub mod Loops
+pub mod Search
 pub mod Build
 pub mod Beginnings
 pub mod Early

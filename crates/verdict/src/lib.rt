@@ -93,7 +93,7 @@ fn reach_of(pool: [Duty; Board::DUTIES], n: usize, d: Duty, user: u16, set: u32)
     let mut k: usize = 0;
     while k < n {
         let g = pool[k];
-        if acts::wholly_before(g, d) {
+        if windows::wholly_before(g, d) {
             let what = g.what;
             most = with_granted(most, user, what);
             least = without_revoked(least, user, what);
@@ -219,7 +219,7 @@ fn opposes_it(d: Duty, asked: Asked, x: Duty) -> bool
     let own = d.serial;
     let other = x.serial;
     let what = x.what;
-    (other.0 != own.0) & (needs_opposite(d.doer, asked, what) & !acts::wholly_before(d, x))
+    (other.0 != own.0) & (needs_opposite(d.doer, asked, what) & !windows::wholly_before(d, x))
 }
 
 // Whether g is between x and d and sets right what x sets.
@@ -228,7 +228,7 @@ fn heals_it(x: Duty, d: Duty, g: Duty) -> bool
 {
     let what = g.what;
     let other = x.what;
-    (acts::wholly_before(x, g) & acts::wholly_before(g, d)) & undoes_it(what, other)
+    (windows::wholly_before(x, g) & windows::wholly_before(g, d)) & undoes_it(what, other)
 }
 
 // The first duty that opposes d and that no duty heals. The two loops stand in one function: the pool is not
@@ -304,10 +304,10 @@ fn in_trail(y: Duty, x: Duty, d: Duty, late: bool) -> bool
     let own = y.serial;
     let other = x.serial;
     if late {
-        return acts::wholly_before(x, y) & acts::wholly_before(y, d);
+        return windows::wholly_before(x, y) & windows::wholly_before(y, d);
     }
-    let low = acts::wholly_before(y, d) | acts::wholly_before(y, x);
-    low & !(acts::wholly_before(x, y) | (own.0 == other.0))
+    let low = windows::wholly_before(y, d) | windows::wholly_before(y, x);
+    low & !(windows::wholly_before(x, y) | (own.0 == other.0))
 }
 
 // Do one duty, if none got stuck so far: write its serial, and make its change where it is permitted.

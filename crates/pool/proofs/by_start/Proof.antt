@@ -8,7 +8,8 @@ use lib.ListN.{length}
 use borrow.Author.Needs.{needs}
 use Rattle.board.specs.Limits.{maxDuties}
 use Rattle.pool.proofs.PutIn as one
-use Rattle.pool.proofs.PutAll.{upTo, up-to-long, goes-on, start, turn, ended}
+use Rattle.pool.proofs.PutAll.{upTo, up-to-long, start, turn, ended}
+use Rattle.pool.proofs.Turns.{goes-on}
 use Rattle.pool.proofs.by_start.Statement.{statement}
 use Rattle.pool.proofs.by_start.Tie as tie
 
