@@ -31,14 +31,14 @@ pub(crate) fn low(number: u32) -> u8 {
 }
 
 // Let the byte at a place be the lowest byte of a number.
-fn put_byte(s: &mut [u8], at: usize, number: u32) {
+pub(crate) fn put_byte(s: &mut [u8], at: usize, number: u32) {
     if at < s.len() {
         s[at] = low(number);
     }
 }
 
 // The lesser of two.
-fn lesser(a: usize, b: usize) -> usize
+pub(crate) fn lesser(a: usize, b: usize) -> usize
     ensures { λ r. ⌜ r ≤ b ⌝ }
 {
     if a < b { a } else { b }

@@ -36,3 +36,14 @@ pub(crate) fn draw(draws: &[u32], row: u32, column: u32, bound: u8) -> u8 {
     let at = 8 * (row as usize) + column as usize;
     low(entry(draws, at) % (bound as u32))
 }
+
+// A random number of four bytes, by two random numbers in a row of eight.
+pub(crate) fn draw_four(draws: &[u32], row: u32, column: u32) -> u32 {
+    let at = 8 * (row as usize) + column as usize;
+    entry(draws, at) % 65536 * 65536 + entry(draws, at + 1) % 65536
+}
+
+// A random number brought below a bound.
+pub(crate) fn below(number: u32, bound: u32) -> u32 {
+    if bound == 0 { 0 } else { number % bound }
+}

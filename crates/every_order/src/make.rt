@@ -1,32 +1,51 @@
-// A small random board as the bytes of its file, valid by all rules of document 01: 1 to 4 users and roles,
-// up to 4 permissions, 8 rules and 6 duties. The random numbers stand in rows: 0 and 1 for the board, 2 to 5
-// for the users, 6 to 9 for the permissions, 10 to 17 for the rules, 18 to 89 for twelve tries at each duty,
-// 90 to 96 for the windows. Duties are made in an order in which most are permitted: so about half are green.
+// A small random board as the bytes of its file, valid by all rules of document 01: duties about 1 to 4 users
+// and roles, which are the last of 64 and of 32 on some boards; up to 4 permissions, 8 rules and 6 duties.
+// The random numbers stand in rows: 0, 1, 97 and 98 for the board, 2 to 5 for the users, 6 to 9 for the
+// permissions, 10 to 17 for the rules, 18 to 89 for twelve tries at each duty, 90 to 96 for the windows, 99 to
+// 104 for the serials. Duties are made in an order in which most are permitted: so about half are green.
 use crate::bytes::low;
 use crate::bytes::put_record;
+use crate::draws::below;
 use crate::draws::draw;
+use crate::draws::draw_four;
 use crate::rules::Act;
 use crate::rules::Held;
+use crate::rules::TRUE_RULES;
 use crate::rules::after;
 use crate::rules::held_in_file;
 use crate::rules::matters;
 use crate::rules::permitted;
 use crate::walk::plus;
+ghost use Prim.Native.Nat.{_<_};
 
 // A byte as a wider number.
-fn wide(x: u8) -> u32 {
+fn wide(x: u8) -> u32
+    ensures { λ r. ⌜ r < 256 ⌝ }
+{
     x as u32
 }
 
 // ---- how many there are of each
 
-// How many users, roles, permissions, rules and duties there are.
+// The first user and the first role that duties are about, how many of each there are from these on, and how
+// many permissions, rules and duties.
 struct Counts {
+    user: u8,
+    role: u8,
     users: u8,
     roles: u8,
     permissions: u8,
     rules: u8,
     duties: u8,
+}
+
+// How many users or roles stand before those that duties are about: none on most boards, the most on some.
+fn how_many_before(draws: &[u32], column: u8, most: u8) -> u8 {
+    match draw(draws, 97, column as u32, 8) {
+        0 => most,
+        1 => draw(draws, 97, 1 + column as u32, most),
+        _ => 0,
+    }
 }
 
 // 1 to 4, and 2 or 3 most often.
@@ -69,6 +88,8 @@ fn how_many(draws: &[u32], roles: u8, first: u8, end: u8) -> u8 {
 fn counts_by(draws: &[u32]) -> Counts {
     let roles = one_to_four(draws, 2);
     Counts {
+        user: how_many_before(draws, 0, 60),
+        role: how_many_before(draws, 2, 28),
         users: one_to_four(draws, 0),
         roles,
         permissions: how_many(draws, roles, 6, 10),
@@ -81,17 +102,18 @@ fn counts_by(draws: &[u32]) -> Counts {
 
 // The offset of the permissions.
 fn permissions_at(n: Counts) -> u32 {
-    40 + 4 * (n.users as u32)
+    40 + 4 * (n.user as u32) + 4 * (n.users as u32)
 }
 
 // The offset of the rules.
 fn rules_at(n: Counts) -> u32 {
-    40 + 4 * (n.users as u32) + 6 * (n.permissions as u32)
+    40 + 4 * (n.user as u32) + 4 * (n.users as u32) + 6 * (n.permissions as u32)
 }
 
 // The offset of so many duties on.
 fn duty_at(n: Counts, count: u8) -> u32 {
     40
+        + 4 * (n.user as u32)
         + 4 * (n.users as u32)
         + 6 * (n.permissions as u32)
         + 16 * (n.rules as u32)
@@ -110,20 +132,29 @@ fn first_minute(draws: &[u32]) -> u32 {
     }
 }
 
-// Put the header.
-fn put_header(s: &mut [u8], draws: &[u32], n: Counts) {
+// The clock: near the windows, or anywhere.
+fn clock_by(draws: &[u32]) -> u32 {
     let later = draw(draws, 1, 1, 8);
-    let clock = plus(first_minute(draws), later as u32);
+    if later == 0 {
+        draw_four(draws, 98, 0)
+    } else {
+        plus(first_minute(draws), later as u32)
+    }
+}
+
+// Put the header, but for the next serial.
+fn put_header(s: &mut [u8], draws: &[u32], n: Counts) {
+    let clock = clock_by(draws);
     let header = [
         1,
-        n.users as u32,
-        n.roles as u32,
+        n.user as u32 + n.users as u32,
+        n.role as u32 + n.roles as u32,
         n.permissions as u32,
         n.rules as u32,
         n.duties as u32,
         clock % 65536,
         clock / 65536,
-        1 + n.duties as u32,
+        0,
         0,
         40,
         0,
@@ -149,23 +180,39 @@ fn sets(roles: u8) -> u8 {
     }
 }
 
-// The set of a user: few roles, but role 0 and more for user 0.
-fn set_for(draws: &[u32], user: u8, roles: u8) -> u32 {
-    let row = 2 + user as u32;
-    let one = draw(draws, row, 0, sets(roles));
-    let other = draw(draws, row, 1, sets(roles));
-    if user == 0 {
-        wide(one | 1)
+// A set of roles from a role on, as the set of those roles.
+fn set_from(role: u8, set: u8) -> u32 {
+    if role < 32 { wide(set) << role } else { 0 }
+}
+
+// A random set of the roles below a role.
+fn set_below(role: u8, number: u32) -> u32 {
+    if role == 0 {
+        0
+    } else if role < 32 {
+        number >> (32 - role)
     } else {
-        wide(one & other)
+        0
     }
+}
+
+// The set of a user: few of the roles that duties are about, but the first and more for each fourth user, and
+// any of the roles before these.
+fn set_for(draws: &[u32], user: u8, n: Counts) -> u32 {
+    let which = (user as u32 + 256 - n.user as u32) % 4;
+    let one = draw(draws, 2 + which, 0, sets(n.roles));
+    let other = draw(draws, 2 + which, 1, sets(n.roles));
+    let set = if which == 0 { one | 1 } else { one & other };
+    set_from(n.role, set) | set_below(n.role, draw_four(draws, 2 + which, 2))
 }
 
 // Put the holdings.
 fn put_holdings(s: &mut [u8], draws: &[u32], n: Counts) {
+    let count = low(n.user as u32 + n.users as u32);
     let mut user: u8 = 0;
-    while user < n.users {
-        let holding = [set_for(draws, user, n.roles), 0];
+    while user < count {
+        let set = set_for(draws, user, n);
+        let holding = [set % 65536, set / 65536];
         put_record(s, 40, 4 * (user as u32), &holding);
         user += 1;
     }
@@ -187,16 +234,23 @@ fn object_by(which: u8) -> u32 {
 fn put_permission(s: &mut [u8], draws: &[u32], n: Counts, row: u8) {
     let place = how_many(draws, n.roles, 6, row);
     let role = draw(draws, row as u32, 1, n.roles);
-    let permission = [role as u32, action_by(row / 8), object_by(row % 2)];
+    let permission = [
+        n.role as u32 + role as u32,
+        action_by(row / 8),
+        object_by(row % 2),
+    ];
     put_record(s, permissions_at(n), 6 * (place as u32), &permission);
 }
 
 // A set of few roles, by three random numbers in a row.
-fn few_roles(draws: &[u32], row: u8, column: u8, roles: u8) -> u32 {
+fn few_roles(draws: &[u32], row: u8, column: u8, n: Counts) -> u32 {
     let r = row as u32;
     let c = column as u32;
-    let n = sets(roles);
-    wide(draw(draws, r, c, n) & draw(draws, r, c + 1, n) & draw(draws, r, c + 2, n))
+    let m = sets(n.roles);
+    set_from(
+        n.role,
+        draw(draws, r, c, m) & draw(draws, r, c + 1, m) & draw(draws, r, c + 2, m),
+    )
 }
 
 // Put the rule of a row.
@@ -205,9 +259,18 @@ fn put_rule(s: &mut [u8], draws: &[u32], n: Counts, row: u8) {
     let kind: u32 = if row < 14 { 0 } else { 1 };
     let actor = draw(draws, row as u32, 1, n.roles);
     let role = (row % 4 + 2) % 4;
-    let wanted = few_roles(draws, row, 2, n.roles);
-    let barred = few_roles(draws, row, 5, n.roles);
-    let rule = [kind, actor as u32, role as u32, 0, wanted, 0, barred, 0];
+    let wanted = few_roles(draws, row, 2, n);
+    let barred = few_roles(draws, row, 5, n);
+    let rule = [
+        kind,
+        n.role as u32 + actor as u32,
+        n.role as u32 + role as u32,
+        0,
+        wanted % 65536,
+        wanted / 65536,
+        barred % 65536,
+        barred / 65536,
+    ];
     put_record(s, rules_at(n), 16 * (place as u32), &rule);
 }
 
@@ -269,13 +332,13 @@ fn next_window(draws: &[u32], i: u8, w: Window) -> Window {
 // A grant, a revoke or a use.
 fn act_by(draws: &[u32], row: u32, n: Counts) -> Act {
     let kind = draw(draws, row, 0, 8);
-    let doer = wide(draw(draws, row, 1, n.users));
+    let doer = n.user as u32 + wide(draw(draws, row, 1, n.users));
     if kind < 6 {
         Act {
             doer,
             action: (kind / 3) as u32,
-            first: wide(draw(draws, row, 2, n.users)),
-            second: wide(draw(draws, row, 3, n.roles)),
+            first: n.user as u32 + wide(draw(draws, row, 2, n.users)),
+            second: n.role as u32 + wide(draw(draws, row, 3, n.roles)),
         }
     } else {
         Act {
@@ -299,7 +362,7 @@ fn fitting_act(s: &[u8], draws: &[u32], n: Counts, i: u8, held: Held) -> Act {
     let mut k: u8 = 0;
     while k < tries {
         let act = act_by(draws, first + k as u32, n);
-        if permitted(s, held, act) & matters(held, act) {
+        if permitted(s, TRUE_RULES, held, act) & matters(held, act) {
             return act;
         }
         k += 1;
@@ -320,11 +383,9 @@ fn place_for(draws: &[u32], i: u8, duties: u8) -> u8 {
     }
 }
 
-// Put a duty.
+// Put a duty, but for its serial.
 fn put_duty(s: &mut [u8], n: Counts, place: u8, act: Act, w: Window) {
     let duty = [
-        1 + place as u32,
-        0,
         act.doer,
         act.action,
         act.first,
@@ -334,7 +395,7 @@ fn put_duty(s: &mut [u8], n: Counts, place: u8, act: Act, w: Window) {
         w.end % 65536,
         w.end / 65536,
     ];
-    put_record(s, duty_at(n, place), 0, &duty);
+    put_record(s, duty_at(n, place), 4, &duty);
 }
 
 // Put the duties, in the order in which they are to come.
@@ -351,11 +412,55 @@ fn put_duties(s: &mut [u8], draws: &[u32], n: Counts) {
     }
 }
 
-// Put the file of a random board at the start of a buffer of zeros.
-pub(crate) fn make(s: &mut [u8], draws: &[u32]) {
+// ---- serials
+
+// How far a serial can be above the one after the last: no more on some boards, very far on others.
+fn most_between(draws: &[u32]) -> u32 {
+    match draw(draws, 98, 2, 4) {
+        0 => 1,
+        1 => 3,
+        2 => 300,
+        _ => 700000000,
+    }
+}
+
+// How far the next serial is above the one after the last: no more, little more, or by any number.
+fn until_next(draws: &[u32]) -> u32 {
+    match draw(draws, 98, 3, 4) {
+        0 => 0,
+        1 => draw(draws, 98, 4, 5) as u32,
+        2 => draw_four(draws, 98, 4),
+        _ => 4294967295,
+    }
+}
+
+// A serial as a record.
+fn put_serial(s: &mut [u8], at: u32, serial: u32) {
+    put_record(s, at, 0, &[serial % 65536, serial / 65536]);
+}
+
+// Put the serials of the duties, rising by random gaps, and the next serial.
+fn put_serials(s: &mut [u8], draws: &[u32], n: Counts) {
+    let most = most_between(draws);
+    let mut after: u32 = 1;
+    let mut place: u8 = 0;
+    while place < n.duties {
+        let gap = below(draw_four(draws, 99 + place as u32, 0), most);
+        let serial = plus(after, gap);
+        put_serial(s, duty_at(n, place), serial);
+        after = plus(serial, 1);
+        place += 1;
+    }
+    put_serial(s, 16, plus(after, until_next(draws)));
+}
+
+// Put the file of a random board at the start of a buffer of zeros, and answer its length.
+pub(crate) fn make(s: &mut [u8], draws: &[u32]) -> u32 {
     let n = counts_by(draws);
     put_header(s, draws, n);
     put_holdings(s, draws, n);
     put_rights(s, draws, n);
     put_duties(s, draws, n);
+    put_serials(s, draws, n);
+    duty_at(n, n.duties)
 }
