@@ -56,3 +56,8 @@ pub(crate) fn put_record(s: &mut [u8], part: u32, offset: u32, halves: &[u32]) {
         i += 1;
     }
 }
+
+// Put a number of four bytes, so far into a part of the file.
+pub(crate) fn put_four(s: &mut [u8], part: u32, offset: u32, number: u32) {
+    put_record(s, part, offset, &[number % 65536, number / 65536]);
+}

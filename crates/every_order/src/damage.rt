@@ -1,6 +1,7 @@
-// Damage to a board file: none or one of eight kinds, by a row of random numbers. Some leave a valid file.
+// Damage to a board file, by a row of random numbers. Some leave a valid file.
 use crate::bytes::four;
 use crate::bytes::put_byte;
+use crate::bytes::put_four;
 use crate::bytes::put_record;
 use crate::bytes::two;
 use crate::draws::below;
@@ -8,21 +9,13 @@ use crate::draws::draw;
 use crate::draws::draw_four;
 use crate::draws::entry;
 use crate::parts::duty_at;
-use crate::parts::holding_at;
 use crate::parts::permission_at;
 use crate::parts::rule_at;
 use crate::rules::only;
 use crate::walk::plus;
 
-// A random number below a bound.
-fn some_below(draws: &[u32], row: u32, bound: u32) -> u32 {
-    below(draw_four(draws, row, 2), bound)
-}
-
-// ---- a field
-
-// A number at or next to a limit.
-fn telling(s: &[u8], draws: &[u32], row: u32) -> u32 {
+// A number at or next to a limit of the board's, or of this file's.
+fn telling(s: &[u8], which: u8) -> u32 {
     let numbers = [
         0,
         1,
@@ -38,113 +31,90 @@ fn telling(s: &[u8], draws: &[u32], row: u32) -> u32 {
         256,
         512,
         513,
-        65535,
         two(s, 0, 2),
         two(s, 0, 4),
+        only(two(s, 0, 4)),
         two(s, 0, 10),
     ];
-    entry(&numbers, draw(draws, row, 1, 18) as usize)
+    entry(&numbers, which as usize)
 }
 
 // Let two bytes at an offset be a telling number.
-fn change_field(s: &mut [u8], draws: &[u32], row: u32, at: u32) {
-    let number = telling(s, draws, row);
+fn change_field(s: &mut [u8], at: u32, which: u8) {
+    let number = telling(s, which);
     put_record(s, at, 0, &[number]);
 }
 
-// Let a byte be any other.
-fn change_byte(s: &mut [u8], draws: &[u32], row: u32, at: u32) {
-    put_byte(s, at as usize, draw_four(draws, row, 4));
+// Where the record before one of a part stands, and where that one stands.
+struct Two {
+    before: u32,
+    at: u32,
 }
 
-// ---- a record
-
-// Let a record begin as another of its part does: so it is not above that one.
-fn copy_start(s: &mut [u8], from: u32, to: u32) {
-    let halves = [two(s, from, 0), two(s, from, 2), two(s, from, 4)];
-    put_record(s, to, 0, &halves);
-}
-
-// The same for two records of a random part.
-fn repeat_record(s: &mut [u8], draws: &[u32], row: u32) {
-    let one = draw_four(draws, row, 2);
-    let other = draw_four(draws, row, 4);
-    let permissions = two(s, 0, 6);
-    let rules = two(s, 0, 8);
-    let duties = two(s, 0, 10);
-    match draw(draws, row, 1, 3) {
-        0 => copy_start(
-            s,
-            permission_at(s, below(one, permissions)),
-            permission_at(s, below(other, permissions)),
-        ),
-        1 => copy_start(
-            s,
-            rule_at(s, below(one, rules)),
-            rule_at(s, below(other, rules)),
-        ),
-        _ => copy_start(
-            s,
-            duty_at(s, below(one, duties)),
-            duty_at(s, below(other, duties)),
-        ),
+// Two permissions, rules or duties next to each other.
+fn next_to(s: &[u8], part: u8, place: u32) -> Two {
+    let after = plus(place, 1);
+    match part {
+        0 => Two {
+            before: permission_at(s, place),
+            at: permission_at(s, after),
+        },
+        1 => Two {
+            before: rule_at(s, place),
+            at: rule_at(s, after),
+        },
+        _ => Two {
+            before: duty_at(s, place),
+            at: duty_at(s, after),
+        },
     }
+}
+
+// Let a record begin as the one before it does: so it is not above that one.
+fn repeat_record(s: &mut [u8], records: Two) {
+    let from = records.before;
+    let halves = [two(s, from, 0), two(s, from, 2), two(s, from, 4)];
+    put_record(s, records.at, 0, &halves);
 }
 
 // Let a duty start just after its end.
-fn start_after_end(s: &mut [u8], draws: &[u32], row: u32) {
-    let at = duty_at(s, some_below(draws, row, two(s, 0, 10)));
+fn start_after_end(s: &mut [u8], place: u32) {
+    let at = duty_at(s, place);
     let start = plus(four(s, at, 16), 1);
-    put_record(s, at, 12, &[start % 65536, start / 65536]);
+    put_four(s, at, 12, start);
 }
 
-// Let a set of roles be the first role that is not there.
-fn set_too_high(s: &mut [u8], draws: &[u32], row: u32) {
-    let set = only(two(s, 0, 4));
-    let halves = [set % 65536, set / 65536];
-    match draw(draws, row, 1, 3) {
-        0 => put_record(
-            s,
-            holding_at(s, some_below(draws, row, two(s, 0, 2))),
-            0,
-            &halves,
-        ),
-        1 => put_record(
-            s,
-            rule_at(s, some_below(draws, row, two(s, 0, 8))),
-            8,
-            &halves,
-        ),
-        _ => put_record(
-            s,
-            rule_at(s, some_below(draws, row, two(s, 0, 8))),
-            12,
-            &halves,
-        ),
+// Change the file: any byte, a field of the header, any field, the order, or a window.
+fn change(s: &mut [u8], draws: &[u32], row: u32, at: u32) {
+    let place = draw(draws, row, 4, 5) as u32;
+    let which = draw(draws, row, 5, 18);
+    match draw(draws, row, 1, 8) {
+        0 => put_byte(s, at as usize, draw_four(draws, row, 6)),
+        1 => change_field(s, at % 40 / 2 * 2, which),
+        2 => repeat_record(s, next_to(s, which % 3, place)),
+        3 => start_after_end(s, place),
+        _ => change_field(s, at / 2 * 2, which),
     }
 }
 
-// ---- the file
-
-// Damage a file of so many bytes, and answer how many it then has.
+// Damage a file of so many bytes, and answer how many it then has: a cut, a byte more, or a change.
 fn damage_once(s: &mut [u8], draws: &[u32], row: u32, kinds: u8, length: u32) -> u32 {
-    let at = some_below(draws, row, length);
-    match draw(draws, row, 0, kinds) {
-        0 => return at,
-        1 => return plus(length, 1),
-        2 => change_field(s, draws, row, 2 * (draw(draws, row, 3, 20) as u32)),
-        3 => change_field(s, draws, row, at / 2 * 2),
-        4 => change_byte(s, draws, row, at),
-        5 => repeat_record(s, draws, row),
-        6 => start_after_end(s, draws, row),
-        7 => set_too_high(s, draws, row),
-        _ => {}
+    let at = below(draw_four(draws, row, 2), length);
+    let kind = draw(draws, row, 0, kinds);
+    if kind == 0 {
+        return at;
+    }
+    if kind == 1 {
+        return plus(length, 1);
+    }
+    if kind < 10 {
+        change(s, draws, row, at);
     }
     length
 }
 
 // Damage a file of so many bytes once, and on some boards once more.
 pub(crate) fn damage(s: &mut [u8], draws: &[u32], length: u32) -> u32 {
-    let once = damage_once(s, draws, 105, 8, length);
+    let once = damage_once(s, draws, 105, 10, length);
     damage_once(s, draws, 106, 24, once)
 }

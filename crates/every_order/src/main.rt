@@ -31,8 +31,9 @@ use tally::Tally;
 use tally::counted;
 use tally::line;
 use tally::nothing;
-use tally::print_damaged;
-use tally::print_made;
+use tally::print_refusals;
+use tally::print_shortcuts;
+use tally::print_verdicts;
 use walk::plus;
 use walk::walk;
 
@@ -213,7 +214,10 @@ fn main() {
     let made = t.made;
     let damaged = t.damaged;
     line(b"boards", BOARDS);
-    print_made(made);
-    print_damaged(damaged);
+    print_verdicts(made);
+    print_shortcuts(made);
+    line(b"damaged files", BOARDS);
+    print_verdicts(damaged);
+    print_refusals(damaged);
     line(b"disagreements", plus(made.wrong, damaged.wrong));
 }

@@ -4,10 +4,19 @@
 // permissions, 10 to 17 for the rules, 18 to 89 for twelve tries at each duty, 90 to 96 for the windows, 99 to
 // 104 for the serials. Duties are made in an order in which most are permitted: so about half are green.
 use crate::bytes::low;
+use crate::bytes::put_four;
 use crate::bytes::put_record;
+use crate::bytes::two;
 use crate::draws::below;
 use crate::draws::draw;
 use crate::draws::draw_four;
+use crate::parts::duties_from;
+use crate::parts::duty_at;
+use crate::parts::permission_at;
+use crate::parts::permissions_from;
+use crate::parts::rule_at;
+use crate::parts::rules_from;
+use crate::parts::total;
 use crate::rules::Act;
 use crate::rules::Held;
 use crate::rules::TRUE_RULES;
@@ -98,28 +107,6 @@ fn counts_by(draws: &[u32]) -> Counts {
     }
 }
 
-// ---- where the parts stand
-
-// The offset of the permissions.
-fn permissions_at(n: Counts) -> u32 {
-    40 + 4 * (n.user as u32) + 4 * (n.users as u32)
-}
-
-// The offset of the rules.
-fn rules_at(n: Counts) -> u32 {
-    40 + 4 * (n.user as u32) + 4 * (n.users as u32) + 6 * (n.permissions as u32)
-}
-
-// The offset of so many duties on.
-fn duty_at(n: Counts, count: u8) -> u32 {
-    40
-        + 4 * (n.user as u32)
-        + 4 * (n.users as u32)
-        + 6 * (n.permissions as u32)
-        + 16 * (n.rules as u32)
-        + 20 * (count as u32)
-}
-
 // ---- header and holdings
 
 // The minute near which the windows lie: some cross from one byte of a number to the next.
@@ -142,32 +129,27 @@ fn clock_by(draws: &[u32]) -> u32 {
     }
 }
 
-// Put the header, but for the next serial.
-fn put_header(s: &mut [u8], draws: &[u32], n: Counts) {
-    let clock = clock_by(draws);
-    let header = [
+// Put the version, the counts and the clock.
+fn put_counts(s: &mut [u8], draws: &[u32], n: Counts) {
+    let counts = [
         1,
         n.user as u32 + n.users as u32,
         n.role as u32 + n.roles as u32,
         n.permissions as u32,
         n.rules as u32,
         n.duties as u32,
-        clock % 65536,
-        clock / 65536,
-        0,
-        0,
-        40,
-        0,
-        permissions_at(n),
-        0,
-        rules_at(n),
-        0,
-        duty_at(n, 0),
-        0,
-        duty_at(n, n.duties),
-        0,
     ];
-    put_record(s, 0, 0, &header);
+    put_record(s, 0, 0, &counts);
+    put_four(s, 0, 12, clock_by(draws));
+}
+
+// Put the offsets and the total.
+fn put_offsets(s: &mut [u8]) {
+    let permissions = permissions_from(s);
+    let rules = rules_from(s);
+    let duties = duties_from(s);
+    let all = total(s);
+    put_record(s, 20, 0, &[40, 0, permissions, 0, rules, 0, duties, 0, all]);
 }
 
 // How many sets there are of so many roles.
@@ -196,24 +178,28 @@ fn set_below(role: u8, number: u32) -> u32 {
     }
 }
 
-// The set of a user: few of the roles that duties are about, but the first and more for each fourth user, and
-// any of the roles before these.
+// Few of so many roles; but for the first of four users the first role, and more.
+fn set_about(draws: &[u32], which: u32, roles: u8) -> u8 {
+    let one = draw(draws, which, 0, sets(roles));
+    let other = draw(draws, which, 1, sets(roles));
+    if which == 2 { one | 1 } else { one & other }
+}
+
+// The set of a user, by the row of one of four users: some of the roles that duties are about, and any of the
+// roles before these.
 fn set_for(draws: &[u32], user: u8, n: Counts) -> u32 {
-    let which = (user as u32 + 256 - n.user as u32) % 4;
-    let one = draw(draws, 2 + which, 0, sets(n.roles));
-    let other = draw(draws, 2 + which, 1, sets(n.roles));
-    let set = if which == 0 { one | 1 } else { one & other };
-    set_from(n.role, set) | set_below(n.role, draw_four(draws, 2 + which, 2))
+    let row = 2 + (user as u32 + 256 - n.user as u32) % 4;
+    let set = set_about(draws, row, n.roles);
+    set_from(n.role, set) | set_below(n.role, draw_four(draws, row, 2))
 }
 
 // Put the holdings.
 fn put_holdings(s: &mut [u8], draws: &[u32], n: Counts) {
-    let count = low(n.user as u32 + n.users as u32);
+    let count = low(two(s, 0, 2));
     let mut user: u8 = 0;
     while user < count {
         let set = set_for(draws, user, n);
-        let holding = [set % 65536, set / 65536];
-        put_record(s, 40, 4 * (user as u32), &holding);
+        put_four(s, 40, 4 * (user as u32), set);
         user += 1;
     }
 }
@@ -230,19 +216,25 @@ fn object_by(which: u8) -> u32 {
     if which == 0 { 0 } else { 255 }
 }
 
+// One of the roles that duties are about.
+fn role_by(draws: &[u32], row: u32, column: u32, n: Counts) -> u32 {
+    n.role as u32 + wide(draw(draws, row, column, n.roles))
+}
+
+// One of the users that duties are about.
+fn user_by(draws: &[u32], row: u32, column: u32, n: Counts) -> u32 {
+    n.user as u32 + wide(draw(draws, row, column, n.users))
+}
+
 // Put the permission of a row.
 fn put_permission(s: &mut [u8], draws: &[u32], n: Counts, row: u8) {
     let place = how_many(draws, n.roles, 6, row);
-    let role = draw(draws, row as u32, 1, n.roles);
-    let permission = [
-        n.role as u32 + role as u32,
-        action_by(row / 8),
-        object_by(row % 2),
-    ];
-    put_record(s, permissions_at(n), 6 * (place as u32), &permission);
+    let role = role_by(draws, row as u32, 1, n);
+    let at = permission_at(s, place as u32);
+    put_record(s, at, 0, &[role, action_by(row / 8), object_by(row % 2)]);
 }
 
-// A set of few roles, by three random numbers in a row.
+// A set of few roles, by two random numbers in a row.
 fn few_roles(draws: &[u32], row: u8, column: u8, n: Counts) -> u32 {
     let r = row as u32;
     let c = column as u32;
@@ -253,25 +245,20 @@ fn few_roles(draws: &[u32], row: u8, column: u8, n: Counts) -> u32 {
     )
 }
 
+// Put what the rule of a row wants and bars.
+fn put_sets(s: &mut [u8], draws: &[u32], n: Counts, row: u8, at: u32) {
+    put_four(s, at, 8, few_roles(draws, row, 2, n));
+    put_four(s, at, 12, few_roles(draws, row, 5, n));
+}
+
 // Put the rule of a row.
 fn put_rule(s: &mut [u8], draws: &[u32], n: Counts, row: u8) {
     let place = how_many(draws, n.roles, 10, row);
+    let at = rule_at(s, place as u32);
     let kind: u32 = if row < 14 { 0 } else { 1 };
-    let actor = draw(draws, row as u32, 1, n.roles);
-    let role = (row % 4 + 2) % 4;
-    let wanted = few_roles(draws, row, 2, n);
-    let barred = few_roles(draws, row, 5, n);
-    let rule = [
-        kind,
-        n.role as u32 + actor as u32,
-        n.role as u32 + role as u32,
-        0,
-        wanted % 65536,
-        wanted / 65536,
-        barred % 65536,
-        barred / 65536,
-    ];
-    put_record(s, rules_at(n), 16 * (place as u32), &rule);
+    let role = n.role as u32 + (row as u32 + 2) % 4;
+    put_record(s, at, 0, &[kind, role_by(draws, row as u32, 1, n), role]);
+    put_sets(s, draws, n, row, at);
 }
 
 // Put the permission or the rule of a row, if it is there.
@@ -312,18 +299,18 @@ fn window_from(draws: &[u32], i: u8, start: u32) -> Window {
     }
 }
 
-// The window after the i-th duty's: it begins past the end, at the end, or within.
-fn next_window(draws: &[u32], i: u8, w: Window) -> Window {
+// When the window after the i-th duty's begins: past the end, at the end, or within.
+fn next_start(draws: &[u32], i: u8, w: Window) -> u32 {
     let row = 90 + i as u32;
-    let gaps = draw(draws, 0, 7, 4);
-    let which = draw(draws, row, 0, 8);
-    let more = draw(draws, row, 1, 2);
-    if (which as u32) < 1 + 2 * (gaps as u32) {
-        window_from(draws, i, plus(w.end, 1 + more as u32))
-    } else if (which as u32) < 3 + 2 * (gaps as u32) {
-        window_from(draws, i, w.end)
+    let gaps = 2 * wide(draw(draws, 0, 7, 4));
+    let which = wide(draw(draws, row, 0, 8));
+    let more = wide(draw(draws, row, 1, 2));
+    if which < 1 + gaps {
+        plus(w.end, 1 + more)
+    } else if which < 3 + gaps {
+        w.end
     } else {
-        window_from(draws, i, plus(w.start, more as u32))
+        plus(w.start, more)
     }
 }
 
@@ -332,13 +319,13 @@ fn next_window(draws: &[u32], i: u8, w: Window) -> Window {
 // A grant, a revoke or a use.
 fn act_by(draws: &[u32], row: u32, n: Counts) -> Act {
     let kind = draw(draws, row, 0, 8);
-    let doer = n.user as u32 + wide(draw(draws, row, 1, n.users));
+    let doer = user_by(draws, row, 1, n);
     if kind < 6 {
         Act {
             doer,
             action: (kind / 3) as u32,
-            first: n.user as u32 + wide(draw(draws, row, 2, n.users)),
-            second: n.role as u32 + wide(draw(draws, row, 3, n.roles)),
+            first: user_by(draws, row, 2, n),
+            second: role_by(draws, row, 3, n),
         }
     } else {
         Act {
@@ -384,18 +371,11 @@ fn place_for(draws: &[u32], i: u8, duties: u8) -> u8 {
 }
 
 // Put a duty, but for its serial.
-fn put_duty(s: &mut [u8], n: Counts, place: u8, act: Act, w: Window) {
-    let duty = [
-        act.doer,
-        act.action,
-        act.first,
-        act.second,
-        w.start % 65536,
-        w.start / 65536,
-        w.end % 65536,
-        w.end / 65536,
-    ];
-    put_record(s, duty_at(n, place), 4, &duty);
+fn put_duty(s: &mut [u8], place: u8, act: Act, w: Window) {
+    let at = duty_at(s, place as u32);
+    put_record(s, at, 4, &[act.doer, act.action, act.first, act.second]);
+    put_four(s, at, 12, w.start);
+    put_four(s, at, 16, w.end);
 }
 
 // Put the duties, in the order in which they are to come.
@@ -405,9 +385,9 @@ fn put_duties(s: &mut [u8], draws: &[u32], n: Counts) {
     let mut i: u8 = 0;
     while i < n.duties {
         let act = fitting_act(s, draws, n, i, held);
-        put_duty(s, n, place_for(draws, i, n.duties), act, w);
+        put_duty(s, place_for(draws, i, n.duties), act, w);
         held = after(held, act);
-        w = next_window(draws, i, w);
+        w = window_from(draws, i, next_start(draws, i, w));
         i += 1;
     }
 }
@@ -434,33 +414,29 @@ fn until_next(draws: &[u32]) -> u32 {
     }
 }
 
-// A serial as a record.
-fn put_serial(s: &mut [u8], at: u32, serial: u32) {
-    put_record(s, at, 0, &[serial % 65536, serial / 65536]);
-}
-
 // Put the serials of the duties, rising by random gaps, and the next serial.
-fn put_serials(s: &mut [u8], draws: &[u32], n: Counts) {
+fn put_serials(s: &mut [u8], draws: &[u32], duties: u8) {
     let most = most_between(draws);
     let mut after: u32 = 1;
     let mut place: u8 = 0;
-    while place < n.duties {
+    while place < duties {
         let gap = below(draw_four(draws, 99 + place as u32, 0), most);
         let serial = plus(after, gap);
-        put_serial(s, duty_at(n, place), serial);
+        put_four(s, duty_at(s, place as u32), 0, serial);
         after = plus(serial, 1);
         place += 1;
     }
-    put_serial(s, 16, plus(after, until_next(draws)));
+    put_four(s, 0, 16, plus(after, until_next(draws)));
 }
 
 // Put the file of a random board at the start of a buffer of zeros, and answer its length.
 pub(crate) fn make(s: &mut [u8], draws: &[u32]) -> u32 {
     let n = counts_by(draws);
-    put_header(s, draws, n);
+    put_counts(s, draws, n);
+    put_offsets(s);
     put_holdings(s, draws, n);
     put_rights(s, draws, n);
     put_duties(s, draws, n);
-    put_serials(s, draws, n);
-    duty_at(n, n.duties)
+    put_serials(s, draws, n.duties);
+    total(s)
 }

@@ -1,10 +1,14 @@
 // Document 01's "Board file" once more: with which number a file is refused, 0 where it is not.
 use crate::bytes::four;
 use crate::bytes::two;
+use crate::parts::duties_from;
 use crate::parts::duty_at;
 use crate::parts::holding_at;
 use crate::parts::permission_at;
+use crate::parts::permissions_from;
 use crate::parts::rule_at;
+use crate::parts::rules_from;
+use crate::parts::total;
 
 // ---- the header
 
@@ -24,16 +28,12 @@ fn counts_fit(s: &[u8]) -> bool {
 
 // Whether the offsets and the total are those of the counts, and the total is the file's length.
 fn is_laid_out(s: &[u8]) -> bool {
-    let permissions = 40 + 4 * two(s, 0, 2);
-    let rules = permissions + 6 * two(s, 0, 6);
-    let duties = rules + 16 * two(s, 0, 8);
-    let total = duties + 20 * two(s, 0, 10);
     (four(s, 0, 20) == 40)
-        & (four(s, 0, 24) == permissions)
-        & (four(s, 0, 28) == rules)
-        & (four(s, 0, 32) == duties)
-        & (four(s, 0, 36) == total)
-        & (s.len() == total as usize)
+        & (four(s, 0, 24) == permissions_from(s))
+        & (four(s, 0, 28) == rules_from(s))
+        & (four(s, 0, 32) == duties_from(s))
+        & (four(s, 0, 36) == total(s))
+        & (s.len() == total(s) as usize)
 }
 
 // ---- one record: 5, then 7, then 6

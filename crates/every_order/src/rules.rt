@@ -213,18 +213,25 @@ fn is_open(s: &[u8], done: u32, duty: u8) -> bool {
     (place < two(s, 0, 10)) & !has(done, place)
 }
 
+// The first minute of a duty.
+fn start_of(s: &[u8], duty: u8) -> u32 {
+    four(s, duty_at(s, duty as u32), 12)
+}
+
+// The last minute of a duty.
+fn end_of(s: &[u8], duty: u8) -> u32 {
+    four(s, duty_at(s, duty as u32), 16)
+}
+
 // Whether a duty has to come before another: it is wholly before it, its end less than the other's start.
 fn comes_before(s: &[u8], by: u8, one: u8, other: u8) -> bool {
-    let start = four(s, duty_at(s, one as u32), 12);
-    let end = four(s, duty_at(s, one as u32), 16);
-    let other_start = four(s, duty_at(s, other as u32), 12);
-    let other_end = four(s, duty_at(s, other as u32), 16);
+    let start = start_of(s, other);
     if by == BY_STARTS {
-        (start < other_start) | ((start == other_start) & (one < other))
+        (start_of(s, one) < start) | ((start_of(s, one) == start) & (one < other))
     } else if by == TOUCHING {
-        (end <= other_start) & (start < other_end)
+        (end_of(s, one) <= start) & (start_of(s, one) < end_of(s, other))
     } else {
-        end < other_start
+        end_of(s, one) < start
     }
 }
 

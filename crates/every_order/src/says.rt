@@ -138,6 +138,6 @@ pub(crate) fn says(s: &[u8], b: Board) -> bool {
 // Whether a board is the smallest: one user with no role, one role, clock 0, next serial 1, nothing else.
 pub(crate) fn is_smallest(b: Board) -> bool {
     let mut smallest = [0u8; 44];
-    put_record(&mut smallest, 0, 0, &[1, 1, 1, 0, 0, 0, 0, 0, 1, 0]);
+    put_record(&mut smallest, 0, 0, &[1, 1, 1, 0, 0, 0, 0, 0, 1]);
     says(&smallest, b)
 }

@@ -89,29 +89,42 @@ pub(crate) fn line(name: &[u8], number: u32) {
     io::write_all(1, b"\n");
 }
 
-// The lines on the boards as made.
-pub(crate) fn print_made(t: Tally) {
+// The lines on the verdicts.
+pub(crate) fn print_verdicts(t: Tally) {
     line(b"green", t.numbers[0]);
     line(b"red", t.numbers[8]);
     line(b"orders walked", t.orders);
     line(b"longest failing order", t.longest);
-    line(b"wrong by the order of starts alone", t.shortcuts[1]);
-    line(b"wrong by refusing after any revoke", t.shortcuts[2]);
-    line(b"wrong by touching windows as ordered", t.shortcuts[3]);
-    line(b"wrong by forgetting barred roles", t.shortcuts[4]);
-    line(b"wrong by conditions on the doer", t.shortcuts[5]);
-    line(b"wrong by naming duties by place", t.shortcuts[6]);
 }
 
-// The lines on the damaged files.
-pub(crate) fn print_damaged(t: Tally) {
-    line(b"damaged and green", t.numbers[0]);
-    line(b"damaged and red", t.numbers[8]);
-    line(b"refused with 1", t.numbers[1]);
-    line(b"refused with 2", t.numbers[2]);
-    line(b"refused with 3", t.numbers[3]);
-    line(b"refused with 4", t.numbers[4]);
-    line(b"refused with 5", t.numbers[5]);
-    line(b"refused with 6", t.numbers[6]);
-    line(b"refused with 7", t.numbers[7]);
+// The lines on the shortcuts that walk other orders.
+fn print_shortcuts_on_orders(counts: [u32; 7]) {
+    line(b"wrong by the order of starts alone", counts[1]);
+    line(b"wrong by refusing after any revoke", counts[2]);
+    line(b"wrong by touching windows as ordered", counts[3]);
+}
+
+// The lines on the shortcuts that permit otherwise, or name duties otherwise.
+fn print_other_shortcuts(counts: [u32; 7]) {
+    line(b"wrong by forgetting barred roles", counts[4]);
+    line(b"wrong by conditions on the doer", counts[5]);
+    line(b"wrong by naming duties by place", counts[6]);
+}
+
+// The lines on all shortcuts.
+pub(crate) fn print_shortcuts(t: Tally) {
+    let counts = t.shortcuts;
+    print_shortcuts_on_orders(counts);
+    print_other_shortcuts(counts);
+}
+
+// The lines on refused files.
+pub(crate) fn print_refusals(t: Tally) {
+    let mut number: usize = 1;
+    while number < 8 {
+        io::write_all(1, b"refused with ");
+        io::print_decimal(1, number as u64);
+        line(b"", t.numbers[number]);
+        number += 1;
+    }
 }
