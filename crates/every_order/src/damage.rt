@@ -85,11 +85,11 @@ fn start_after_end(s: &mut [u8], place: u32) {
 }
 
 // Change the file: any byte, a field of the header, any field, the order, or a window.
-fn change(s: &mut [u8], draws: &[u32], row: u32, at: u32) {
-    let place = draw(draws, row, 4, 5) as u32;
-    let which = draw(draws, row, 5, 18);
-    match draw(draws, row, 1, 8) {
-        0 => put_byte(s, at as usize, draw_four(draws, row, 6)),
+fn change(s: &mut [u8], board: u32, row: u32, at: u32) {
+    let place = draw(board, row, 4, 5) as u32;
+    let which = draw(board, row, 5, 18);
+    match draw(board, row, 1, 8) {
+        0 => put_byte(s, at as usize, draw_four(board, row, 6)),
         1 => change_field(s, at % 40 / 2 * 2, which),
         2 => repeat_record(s, next_to(s, which % 3, place)),
         3 => start_after_end(s, place),
@@ -98,23 +98,23 @@ fn change(s: &mut [u8], draws: &[u32], row: u32, at: u32) {
 }
 
 // Damage a file of so many bytes, and answer how many it then has: a cut, a byte more, or a change.
-fn damage_once(s: &mut [u8], draws: &[u32], row: u32, kinds: u8, length: u32) -> u32 {
-    let at = below(draw_four(draws, row, 2), length);
-    let kind = draw(draws, row, 0, kinds);
+fn damage_once(s: &mut [u8], board: u32, row: u32, kinds: u8, length: u32) -> u32 {
+    let at = below(draw_four(board, row, 2), length);
+    let kind = draw(board, row, 0, kinds);
     if kind == 0 {
         return at;
     }
     if kind == 1 {
         return plus(length, 1);
     }
-    if kind < 10 {
-        change(s, draws, row, at);
+    if kind < 20 {
+        change(s, board, row, at);
     }
     length
 }
 
 // Damage a file of so many bytes once, and on some boards once more.
-pub(crate) fn damage(s: &mut [u8], draws: &[u32], length: u32) -> u32 {
-    let once = damage_once(s, draws, 105, 10, length);
-    damage_once(s, draws, 106, 24, once)
+pub(crate) fn damage(s: &mut [u8], board: u32, length: u32) -> u32 {
+    let once = damage_once(s, board, 105, 20, length);
+    damage_once(s, board, 106, 40, once)
 }

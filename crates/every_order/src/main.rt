@@ -16,7 +16,6 @@ mod walk;
 use board::Board;
 use bytes::lesser;
 use damage::damage;
-use draws::fill;
 use make::make;
 use order::is_failing;
 use order::is_untouched;
@@ -31,9 +30,10 @@ use tally::Tally;
 use tally::counted;
 use tally::line;
 use tally::nothing;
+use tally::print_damaged;
+use tally::print_made;
 use tally::print_refusals;
 use tally::print_shortcuts;
-use tally::print_verdicts;
 use walk::plus;
 use walk::walk;
 
@@ -176,12 +176,12 @@ fn report(o: Outcome, t: Tally, board: u32) {
     }
 }
 
-// The counts with one more board, made from random numbers, and then damaged.
-fn with_board(t: Tallies, draws: &[u32], board: u32) -> Tallies {
+// The counts with one more board, made from its random numbers, and then damaged.
+fn with_board(t: Tallies, board: u32) -> Tallies {
     let mut buffer = [0u8; 640];
-    let length = make(&mut buffer, draws);
+    let length = make(&mut buffer, board);
     let as_made = compared_in(&buffer, length);
-    let length_then = damage(&mut buffer, draws, length);
+    let length_then = damage(&mut buffer, board, length);
     let as_damaged = compared_in(&buffer, length_then);
     let made = t.made;
     let damaged = t.damaged;
@@ -198,13 +198,10 @@ fn all() -> Tallies {
     let made = nothing();
     let damaged = nothing();
     let mut tallies = Tallies { made, damaged };
-    let mut seed: u64 = 1;
     let mut board: u32 = 0;
     while board < BOARDS {
-        let mut draws = [0u32; 856];
-        seed = fill(&mut draws, seed);
         board += 1;
-        tallies = with_board(tallies, &draws, board);
+        tallies = with_board(tallies, board);
     }
     tallies
 }
@@ -214,10 +211,9 @@ fn main() {
     let made = t.made;
     let damaged = t.damaged;
     line(b"boards", BOARDS);
-    print_verdicts(made);
+    print_made(made);
     print_shortcuts(made);
-    line(b"damaged files", BOARDS);
-    print_verdicts(damaged);
+    print_damaged(damaged);
     print_refusals(damaged);
     line(b"disagreements", plus(made.wrong, damaged.wrong));
 }

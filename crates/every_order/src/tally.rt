@@ -89,8 +89,8 @@ pub(crate) fn line(name: &[u8], number: u32) {
     io::write_all(1, b"\n");
 }
 
-// The lines on the verdicts.
-pub(crate) fn print_verdicts(t: Tally) {
+// The lines on the boards as made.
+pub(crate) fn print_made(t: Tally) {
     line(b"green", t.numbers[0]);
     line(b"red", t.numbers[8]);
     line(b"orders walked", t.orders);
@@ -116,6 +116,12 @@ pub(crate) fn print_shortcuts(t: Tally) {
     let counts = t.shortcuts;
     print_shortcuts_on_orders(counts);
     print_other_shortcuts(counts);
+}
+
+// The lines on damaged files that are not refused.
+pub(crate) fn print_damaged(t: Tally) {
+    line(b"green though damaged", t.numbers[0]);
+    line(b"red though damaged", t.numbers[8]);
 }
 
 // The lines on refused files.

@@ -6,10 +6,10 @@ use Rattle.every_order.proofs.all.Statement.{statement}
 use Rattle.every_order.proofs.all.Tie as tie
 
 abbrev Inv-loop : tie.InvT-loop
-Inv-loop tallies₀ seed₀ board₀ tallies seed board = board ≤ 10000
+Inv-loop tallies₀ board₀ tallies board = board ≤ 10000
 
 abbrev μ-loop : tie.MeasureT-loop
-μ-loop tallies₀ seed₀ board₀ tallies seed board = 10000 - board
+μ-loop tallies₀ board₀ tallies board = 10000 - board
 
 pub all-spec : {M : Type 1} → statement M
 all-spec =
@@ -18,9 +18,6 @@ all-spec =
     Inv-loop
     μ-loop
     (λ c κs. search needs)
-    (λ c κs. search needs)
-    (λ c. search needs)
-    (λ c. search needs)
     (λ c κs. search needs)
     (λ c. search needs)
     (λ c. search needs)

@@ -8,10 +8,10 @@ use Rattle.every_order.proofs.make.put_holdings.Statement.{statement}
 use Rattle.every_order.proofs.make.put_holdings.Tie as tie
 
 abbrev Inv-loop : tie.InvT-loop
-Inv-loop s₀ draws n count user₀ s user = (user ≤ count) × (count < 256) × (length s ≡ length s₀)
+Inv-loop s₀ board n count user₀ s user = (user ≤ count) × (count < 256) × (length s ≡ length s₀)
 
 abbrev μ-loop : tie.MeasureT-loop
-μ-loop s₀ draws n count user₀ s user = count - user
+μ-loop s₀ board n count user₀ s user = count - user
 
 pub put-holdings-spec : {M : Type 1} → statement M
 put-holdings-spec =
