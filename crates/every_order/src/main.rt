@@ -1,6 +1,6 @@
-// An independent check of reading and verdict: small random boards, each as the bytes of its file, as made and
-// then damaged. Each file is read and every allowed order walked by code that shares nothing with the board's,
-// and the board's answer on the same bytes is compared with what was met.
+// An independent check of reading and verdict: small random boards, each as the bytes of its file, as made
+// and then damaged. Each file is read and every allowed order walked by code that shares nothing with the
+// board's, and the board's answer on the same bytes is compared with what was met.
 mod bytes;
 mod damage;
 mod draws;
@@ -21,7 +21,13 @@ use order::is_failing;
 use order::is_untouched;
 use order::places_differ;
 use reader::refusal;
+use rules::BY_PLACE;
+use rules::BY_STARTS;
+use rules::ON_DOER;
+use rules::REVOKED_EARLIER;
+use rules::TOUCHING;
 use rules::TRUE_RULES;
+use rules::UNBARRED;
 use rules::only;
 use says::is_smallest;
 use says::says;
@@ -63,11 +69,11 @@ fn misled_by(s: &[u8], red: bool, shortcut: u8) -> u32 {
 
 // The shortcuts whose verdict is not this one.
 fn misled(s: &[u8], red: bool) -> u32 {
-    misled_by(s, red, 1)
-        | misled_by(s, red, 2)
-        | misled_by(s, red, 3)
-        | misled_by(s, red, 4)
-        | misled_by(s, red, 5)
+    misled_by(s, red, BY_STARTS)
+        | misled_by(s, red, REVOKED_EARLIER)
+        | misled_by(s, red, TOUCHING)
+        | misled_by(s, red, UNBARRED)
+        | misled_by(s, red, ON_DOER)
 }
 
 // Read a file and walk its orders.
@@ -91,7 +97,8 @@ fn find(s: &[u8]) -> Found {
 
 // ---- what the board tells
 
-// The answer's number, its serial, the length of the failing order, and whether the board given back is right.
+// The answer's number, its serial, the length of the failing order, and whether the board given back is
+// right.
 struct Told {
     number: u8,
     serial: u32,
@@ -142,7 +149,7 @@ fn compared(s: &[u8]) -> Outcome {
     let mut list = [MARK; 128];
     let told = ask(s, found.number, &mut list);
     let places = if places_differ(s, &list, told.length) {
-        only(6)
+        only(BY_PLACE as u32)
     } else {
         0
     };

@@ -1,8 +1,8 @@
 // A small random board as the bytes of its file, valid by all rules of document 01: duties about 1 to 4 users
 // and roles, which are the last of 64 and of 32 on some boards; up to 4 permissions, 8 rules and 6 duties.
 // The random numbers stand in rows: 0, 1, 97 and 98 for the board, 2 to 5 for the users, 6 to 9 for the
-// permissions, 10 to 17 for the rules, 18 to 89 for twelve tries at each duty, 90 to 96 for the windows, 99 to
-// 104 for the serials. Duties are made in an order in which most are permitted: so about half are green.
+// permissions, 10 to 17 for the rules, 18 to 89 for twelve tries at each duty, 90 to 96 for the windows, 99
+// to 104 for the serials. Duties are made in an order in which most are permitted: so about half are green.
 use crate::bytes::low;
 use crate::bytes::put_four;
 use crate::bytes::put_record;

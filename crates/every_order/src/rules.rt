@@ -28,6 +28,9 @@ pub(crate) const UNBARRED: u8 = 4;
 // Reading conditions on the doer.
 pub(crate) const ON_DOER: u8 = 5;
 
+// Naming duties by place: this one tells a failing order wrong, and no verdict.
+pub(crate) const BY_PLACE: u8 = 6;
+
 // ---- sets of numbers below 32
 
 // The set of one number.
