@@ -8,7 +8,8 @@ use Rattle.every_order.proofs.make.put_serials.Statement.{statement}
 use Rattle.every_order.proofs.make.put_serials.Tie as tie
 
 abbrev Inv-loop : tie.InvT-loop
-Inv-loop s₀ board duties most after₀ place₀ s after place = (place ≤ duties) × (duties < 256) × (length s ≡ length s₀)
+Inv-loop s₀ board duties most after₀ place₀ s after place =
+    (place ≤ duties) × (duties < 256) × (length s ≡ length s₀)
 
 abbrev μ-loop : tie.MeasureT-loop
 μ-loop s₀ board duties most after₀ place₀ s after place = duties - place
