@@ -1,5 +1,5 @@
--- The two outcomes of act: an earlier check refuses; or none applies, and the board with the change made is judged.
--- There what is done fits the board, so the board after keeps the rules and has room.
+-- The two outcomes of act: an earlier check refuses; or none applies, and the board with the change made is
+-- judged. There what is done fits the board, so the board after keeps the rules and has room.
 use mathlib.Core.Path.{_≡_, refl, _∙_, subst}
 use mathlib.Core.Bool.{true}
 use mathlib.Core.List.{List}
@@ -57,7 +57,8 @@ module _ (b : Board) (size : Sized b) (before : List ℕ) (q : AskAct) (number :
 
   pub judged-acts :
       (next : Board) → next ≡ actedBoard b (q .clock) (whatNow q) → number ≡ answer.done → (after : List ℕ)
-      (r : Outcome) → Judges b next 0 before after r → ActsNow b before q (r .answer) (r .board) after × Flagged r
+      (r : Outcome) → Judges b next 0 before after r
+      → ActsNow b before q (r .answer) (r .board) after × Flagged r
   judged-acts next is passes after r j =
       let earlier = actEarlier b (length before) q in
       let none = done-none earlier refl (subst (Answers earlier) passes answers) in
@@ -67,7 +68,8 @@ module _ (b : Board) (size : Sized b) (before : List ℕ) (q : AskAct) (number :
       is
       ∙ acted-is b size (whole b size (length before) q none) (q .clock) (whatNow q)
       (what-fits b size (length before) q none) in (
-        judged-called earlier b (afterAct b q) 0 before after r none (fits-after b size (length before) q none) room
+        judged-called earlier b (afterAct b q) 0 before after r none
+            (fits-after b size (length before) q none) room
             (subst (λ (n : Board). Judges b n 0 before after r) says j),
         j .flag,
       )

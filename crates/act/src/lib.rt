@@ -4,7 +4,6 @@ use board::Board;
 use board::Serial;
 use outcomes::Outcome;
 use requests::AskAct;
-ghost use mathlib.Core.Path.{_≡_};
 ghost use Rattle.board.specs.Answers.{Answers};
 ghost use Rattle.outcomes.specs.Outcomes.{Flagged};
 ghost use Rattle.act.specs.ActsNow.{actEarlier, ActsNow};

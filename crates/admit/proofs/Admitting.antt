@@ -1,5 +1,5 @@
--- The two outcomes of admit: an earlier check refuses; or none applies, and the board with the duty added is judged.
--- There the duty fits the board, so the board after keeps the rules and has room.
+-- The two outcomes of admit: an earlier check refuses; or none applies, and the board with the duty added
+-- is judged. There the duty fits the board, so the board after keeps the rules and has room.
 use mathlib.Core.Path.{_≡_, refl, _∙_, subst}
 use mathlib.Core.Bool.{true}
 use mathlib.Core.List.{List, [], _∷_, _++_}
@@ -33,7 +33,8 @@ use Rattle.admit.specs.Admits.{afterAdmit, admitEarlier, Admits}
 
 -- ---- the board with the duty added
 
-module _ (b : Board) (size : Sized b) (is-good : good b ≡ true) (few : length (view b .duties) < maxDuties) where
+module _ (b : Board) (size : Sized b) (is-good : good b ≡ true)
+    (few : length (view b .duties) < maxDuties) where
   -- the code's board, field by field, is the one that says `admitted`
   pub added :
       (q : AskAdmit) (d : Duty) → d ≡ withSerial (b .next .0) (asked q)

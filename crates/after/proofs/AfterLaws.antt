@@ -1,11 +1,10 @@
--- On a good board value the code's board after an act, and after a duty is taken out, is the board value that says
--- `acted` and `withdrawn`: of each list the records change as said, and the filler stays behind them.
-use mathlib.Core.Path.{_≡_, refl, sym, ap, _∙_}
+-- On a good board value the code's board after an act, and after a duty is taken out, is the board value
+-- that says `acted` and `withdrawn`: of each list the records change as said, and the filler stays behind
+-- them.
+use mathlib.Core.Path.{_≡_, sym, ap, _∙_}
 use mathlib.Core.Bool.{true}
-use mathlib.Core.List.{List, _++_}
 use Prim.Native.Nat.{ℕ, _-_}
-use native.Mathlib.Omega.{arith}
-use lib.ListN.{length, take, drop, replicate, take-append-drop}
+use lib.ListN.{length, take-append-drop}
 use Rattle.board.specs.declared.Board.{Board}
 use Rattle.board.specs.declared.What.{What}
 use Rattle.board.specs.After.{acted, withdrawn}
@@ -30,7 +29,10 @@ module _ (b : Board) (size : Sized b) (is-good : good b ≡ true) where
       (b .counts .permissions ≡ length (view b .permissions))
       × (b .permissions ≡ padded noPermission maxPermissions (view b .permissions))
   unfolding boardSaying
-  same-permissions = (ap (λ (c : Board). c .counts .permissions) same, ap (λ (c : Board). c .permissions) same)
+  same-permissions = (
+    ap (λ (c : Board). c .counts .permissions) same,
+    ap (λ (c : Board). c .permissions) same,
+  )
 
   pub same-rules :
       (b .counts .rules ≡ length (view b .rules)) × (b .rules ≡ padded noRule maxRules (view b .rules))

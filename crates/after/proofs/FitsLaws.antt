@@ -1,5 +1,6 @@
--- What a board says after an accepted call keeps the rules and has room, if it did before: so the board value that
--- says it is good. Only clock, next serial, holdings and duties change, and each of these stays in range.
+-- What a board says after an accepted call keeps the rules and has room, if it did before: so the board
+-- value that says it is good. Only clock, next serial, holdings and duties change, and each of these stays
+-- in range.
 use mathlib.Core.Path.{_≡_, refl, ap, _∙_}
 use mathlib.Core.Logic.{⊎-elim}
 use mathlib.Core.Bool.{Bool, true, false, cond}
@@ -30,7 +31,9 @@ keep-length : {A : Type 0} (p : A → Bool) (l : List A) → length (keep p l) �
 keep-length p [] = omega arith
 keep-length p (x ∷ l) = go (p x) (keep-length p l)
   where
-    go : (b : Bool) → length (keep p l) ≤ length l → length (cond b (x ∷ keep p l) (keep p l)) ≤ suc (length l)
+    go :
+        (b : Bool) → length (keep p l) ≤ length l
+        → length (cond b (x ∷ keep p l) (keep p l)) ≤ suc (length l)
     go true h = omega arith
     go false h = omega arith
 
@@ -107,7 +110,9 @@ module _ (v : View) (fits : ViewFits v) (clock : ℕ) where
 
   -- every set of roles is in range
   sets : all (setFits (v .roles)) (v .holdings) ≡ true
-  sets = all-in (setFits (v .roles)) (v .holdings) (λ set m. lt-ltb set (2 ^ v .roles) (in-range .holdings set m))
+  sets =
+      all-in (setFits (v .roles)) (v .holdings)
+      (λ set m. lt-ltb set (2 ^ v .roles) (in-range .holdings set m))
 
   still-fits :
       (next : ℕ) (holdings : List ℕ) (duties : List Duty) → 1 ≤ next → next ≤ maxNext
@@ -187,11 +192,14 @@ module _ (v : View) (fits : ViewFits v) (clock : ℕ) where
       → length (v .duties) + length new ≤ maxDuties → v .next + length new ≤ maxNext
       → ViewFits (admitted v clock new)
   admitted-fits new right few most =
-      still-fits (v .next + length new) (v .holdings) (v .duties ++ numbered (v .next) new) (omega (arith, fits .serial))
+      still-fits (v .next + length new) (v .holdings) (v .duties ++ numbered (v .next) new)
+      (omega (arith, fits .serial))
       most (fits .held) sets (rw (length-append, numbered-length (v .next) new) few)
       (record { each = each; rise = rise })
     where
-      each : (d : Duty) → Mem d (v .duties ++ numbered (v .next) new) → DutyInRange (v .users) (v .roles) (v .next + length new) d
+      each :
+          (d : Duty) → Mem d (v .duties ++ numbered (v .next) new)
+          → DutyInRange (v .users) (v .roles) (v .next + length new) d
       each d m =
           ⊎-elim
           (λ k.

@@ -1,5 +1,5 @@
--- A board value and what it says. Where what is to be said keeps the rules and has room, the board value that says it
--- is good, and says it; and a good board value is the one that says what it says.
+-- A board value and what it says. Where what is to be said keeps the rules and has room, the board value
+-- that says it is good, and says it; and a good board value is the one that says what it says.
 use mathlib.Core.Path.{_≡_, refl, ap, _∙_}
 use mathlib.Core.Bool.{true}
 use mathlib.Core.List.{List, [], _∷_, _++_}
@@ -36,7 +36,8 @@ pub record ViewFits (v : View) : Type 0 where
 pub view-fits : (b : Board) → Sized b → good b ≡ true → ViewFits (view b)
 view-fits b s g =
     let n = good→counts b g in
-    let ps = length-take-le (b .counts .permissions) (b .permissions) (rw (s .permissions) (n .permissions)) in
+    let ps =
+    length-take-le (b .counts .permissions) (b .permissions) (rw (s .permissions) (n .permissions)) in
     let rs = length-take-le (b .counts .rules) (b .rules) (rw (s .rules) (n .rules)) in
     let ds = length-take-le (b .counts .duties) (b .duties) (rw (s .duties) (n .duties)) in
     record {

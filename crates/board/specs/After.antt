@@ -1,5 +1,6 @@
--- What the board says after an accepted call: document 01, section Answer numbers. Each names everything that a board
--- says, so that one sees what changed and that nothing else did. The clock becomes the call's clock.
+-- What the board says after an accepted call: document 01, section Answer numbers. Each names everything
+-- that a board says, so that one sees what changed and that nothing else did. The clock becomes the call's
+-- clock.
 use mathlib.Core.Bool.{Bool, not}
 use mathlib.Core.Option.{Option, none, some}
 use mathlib.Core.List.{List, [], _∷_, _++_}

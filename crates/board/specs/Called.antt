@@ -1,6 +1,6 @@
--- What a call on the live board promises, for every input: over its checks, the board value b given, what the board
--- says after an accepted call, the serial that an accepted call answers, the lent list before and after, the answer,
--- and the board value left.
+-- What a call on the live board promises, for every input: over its checks, the board value b given, what
+-- the board says after an accepted call, the serial that an accepted call answers, the lent list before and
+-- after, the answer, and the board value left.
 use mathlib.Core.Path.{_≡_}
 use mathlib.Core.List.{List}
 use Prim.Native.Nat.{ℕ}
@@ -13,7 +13,8 @@ use Rattle.board.specs.Told.{Told}
 use Rattle.board.specs.View.{View}
 
 pub record Called
-    (checks : List Check) (b : Board) (v : View) (serial : ℕ) (before after : List ℕ) (r : Answer) (left : Board)
+    (checks : List Check) (b : Board) (v : View) (serial : ℕ) (before after : List ℕ) (r : Answer)
+    (left : Board)
     : Type 0
   where
     -- the answer is the number of the first check that applies, and 0 where none does
@@ -22,6 +23,6 @@ pub record Called
     pub accepted : r .number ≡ answer.done → (left ≡ boardSaying v) × (r .serial .0 ≡ serial)
     -- refused: the board is untouched, clock included, and the answer carries serial 0
     pub refused : (r .number ≡ answer.done → ⊥) → (left ≡ b) × (r .serial .0 ≡ 0)
-    -- with 8, a failing order of v at the start of the lent list, and its length; else the list is untouched and the
-    -- length is 0
+    -- with 8, a failing order of v at the start of the lent list, and its length; else the list is
+    -- untouched and the length is 0
     pub told : Told v before after r

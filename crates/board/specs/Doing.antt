@@ -1,11 +1,13 @@
--- What is to be done, told by numbers: an action, a first and a second, as a file's record and a request have them.
+-- What is to be done, told by numbers: an action, a first and a second, as a file's record and a request
+-- have them.
 use mathlib.Core.Bool.{Bool, _||_, cond}
 use Prim.Native.Nat.{ℕ}
 use lib.Dec.{eqb}
 use Rattle.board.specs.declared.What.{What}
 use Rattle.board.specs.declared.What.the-variants.{Grant, Revoke, Use}
 
--- action 0 is a grant and 1 a revoke, of the role `second` for the target `first`; else a use of the object `first`
+-- action 0 is a grant and 1 a revoke, of the role `second` for the target `first`; else a use of the object
+-- `first`
 abbrev pub whatOf : ℕ → ℕ → ℕ → What
 whatOf action first second =
     cond (eqb action 0) (Grant first second) (cond (eqb action 1) (Revoke first second) (Use action first))

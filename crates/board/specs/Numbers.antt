@@ -1,4 +1,5 @@
--- The answer numbers of document 01, stated once for the definitions. In code they are the constants of Answer.
+-- The answer numbers of document 01, stated once for the definitions. In code they are the constants of
+-- Answer.
 use Prim.Native.Nat.{ℕ}
 
 abbrev pub done : ℕ

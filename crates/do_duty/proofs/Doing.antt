@@ -1,10 +1,10 @@
--- The outcomes of do. The duty that the search found is the only open one with its serial, so what the checks say of
--- an open duty with this serial they say of it. An accepted do takes it out and makes its change, which is the board
--- value that says `did`.
+-- The outcomes of do. The duty that the search found is the only open one with its serial, so what the
+-- checks say of an open duty with this serial they say of it. An accepted do takes it out and makes its
+-- change, which is the board value that says `did`.
 use mathlib.Core.Path.{_≡_, refl, sym, ap, _∙_, subst}
 use mathlib.Core.Logic.{inl, inr}
-use mathlib.Core.Bool.{true, false}
-use mathlib.Core.List.{List, [], _∷_}
+use mathlib.Core.Bool.{true}
+use mathlib.Core.List.{List, []}
 use Prim.Native.Nat.{ℕ}
 use native.Mathlib.Omega.{arith}
 use lib.ListN.{drop}
@@ -15,17 +15,16 @@ use Rattle.orders.proofs.Tests.{is-true}
 use Rattle.board.specs.declared.Answer.{Answer}
 use Rattle.board.specs.declared.Board.{Board}
 use Rattle.board.specs.declared.Duty.{Duty}
-use Rattle.board.specs.After.{acted, withdrawn, did}
-use Rattle.board.specs.Answers.{Check, Answers, plainAnswer, doneAnswer}
-use Rattle.board.specs.Called.{Called}
+use Rattle.board.specs.After.{acted, withdrawn}
+use Rattle.board.specs.Answers.{Check, Answers, doneAnswer}
 use Rattle.board.specs.Filler.{Sized}
 use Rattle.board.specs.Good.{good, whatFits}
-use Rattle.board.specs.Green.{worldOf, permittedNow}
+use Rattle.board.specs.Green.{worldOf}
 use Rattle.board.specs.Numbers as answer
-use Rattle.board.specs.Open.{NotOpen, OpenWith}
+use Rattle.board.specs.Open.{OpenWith}
 use Rattle.board.specs.Saying.{boardSaying}
 use Rattle.board.specs.View.{View, view}
-use Rattle.board.specs.Windows.{whollyBefore, inWindow}
+use Rattle.board.specs.Windows.{whollyBefore}
 use Rattle.board.proofs.AnswersLaws.{NoneApplies, done-none, refused-first, then-second, never-answered}
 use Rattle.board.proofs.GoodLaws.{good→records, records→range}
 use Rattle.board.proofs.PoolLaws.{duties-pool}
@@ -57,7 +56,9 @@ module _ (b : Board) (q : AskDo) where
           number = a;
           accepted = λ e. absurd (d e);
           refused = λ e. (refl, refl);
-          told = untouched (afterDo b q) [] number (never-answered answer.red (doChecks b q) number (λ e. omega arith) refl a);
+          told =
+              untouched (afterDo b q) [] number
+              (never-answered answer.red (doChecks b q) number (λ e. omega arith) refl a);
         },
         refused-flagged [] b (afterDo b q) 0 [] number d,
       )
@@ -70,9 +71,12 @@ module _ (b : Board) (q : AskDo) where
 
   -- ---- past 19 and 10
 
-  module _ (number : ℕ) (answers : Answers (boardChecks b (q .clock)) number) (passes : number ≡ answer.done) where
+  module _ (number : ℕ) (answers : Answers (boardChecks b (q .clock)) number)
+      (passes : number ≡ answer.done) where
     none : NoneApplies (boardChecks b (q .clock))
-    none = done-none (boardChecks b (q .clock)) refl (subst (Answers (boardChecks b (q .clock))) passes answers)
+    none =
+        let checks = boardChecks b (q .clock) in
+        done-none checks refl (subst (Answers checks) passes answers)
 
     pub whole : good b ≡ true
     whole = is-true (good b) (none .0)
@@ -90,8 +94,8 @@ module _ (b : Board) (is-good : good b ≡ true) (q : AskDo) (d : Duty)
   -- it is the only one with its serial
   one : (y : Duty) → Mem y (v .duties) → y .serial .0 ≡ q .serial .0 → y ≡ d
   one y m e =
-      same-serial (worldOf v) (v .duties) (duties-pool v (good→records b is-good) .distinct) m (found .open-duty)
-      (e ∙ sym (found .has-serial))
+      same-serial (worldOf v) (v .duties) (duties-pool v (good→records b is-good) .distinct) m
+      (found .open-duty) (e ∙ sym (found .has-serial))
 
   only : {Holds : Duty → Type 0} → OpenWith v (q .serial .0) Holds → Holds d
   only {Holds} o = subst Holds (one (o .duty) (o .open-duty) (o .has-serial)) (o .holds)
@@ -133,17 +137,20 @@ module _ (b : Board) (is-good : good b ≡ true) (q : AskDo) (d : Duty)
     what-fits = records→range v (good→records b is-good) .duties .each d (found .open-duty) .what
 
     done-board :
-        actedBoard (withdrawnBoard b (q .clock) (q .serial .0)) (q .clock) (d .what) ≡ boardSaying (afterDo b q)
+        actedBoard (withdrawnBoard b (q .clock) (q .serial .0)) (q .clock) (d .what)
+        ≡ boardSaying (afterDo b q)
     done-board =
         let fits = withdrawn-fits v (view-fits b size is-good) (q .clock) (q .serial .0) in
         let w = boardSaying left in
-        ap (λ (c : Board). actedBoard c (q .clock) (d .what)) (withdrawn-is b size is-good (q .clock) (q .serial .0))
+        ap (λ (c : Board). actedBoard c (q .clock) (d .what))
+        (withdrawn-is b size is-good (q .clock) (q .serial .0))
         ∙ acted-is w (saying-sized left fits) (saying-good left fits) (q .clock) (d .what) what-fits
         ∙ ap (λ (u : View). boardSaying (acted u (q .clock) (d .what))) (view-saying left fits)
         ∙ ap boardSaying did-is
 
     pub done-does :
-        (a : Answer) (rest next : Board) → a ≡ doneAnswer 0 → rest ≡ withdrawnBoard b (q .clock) (q .serial .0)
+        (a : Answer) (rest next : Board) → a ≡ doneAnswer 0
+        → rest ≡ withdrawnBoard b (q .clock) (q .serial .0)
         → next ≡ actedBoard rest (q .clock) (d .what) → Answers (doChecks b q) answer.done
         → Does b q a next × Flagged (record { answer = a; accepted = true; board = next })
     done-does a rest next is e f answers =

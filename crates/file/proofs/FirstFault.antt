@@ -20,7 +20,8 @@ use Rattle.board.specs.Windows.{windowFits}
 use Rattle.file.specs.Layout.{countsOf, nextOf}
 use Rattle.file.specs.Parts.{sizeOf, faultAt}
 use Rattle.file.specs.Reads.{recordChecks}
-use Rattle.file.specs.Records.{holdingAt, permissionAt, ruleAt, ruleSpare, dutyAt, secondFitsAt, isAbove}
+use Rattle.file.specs.Records.{holdingAt, permissionAt, ruleAt, ruleSpare, dutyAt}
+use Rattle.file.specs.Records.{secondFitsAt, isAbove}
 use Rattle.file.specs.Records.{holdingFault, permissionFault, ruleFault, dutyFault}
 use Rattle.file.specs.Records.{faultOf, faultNumbers, faults, orElse, firstOf, firstFault}
 

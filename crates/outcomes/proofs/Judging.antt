@@ -1,6 +1,6 @@
--- The board after a call judged: where check answers 0 the outcome is that board, else the board given. And from that
--- to what a call promises: the checks before the verdict did not apply, the board after is good and the list long
--- enough, so check answers by whether the board after is red.
+-- The board after a call judged: where check answers 0 the outcome is that board, else the board given. And
+-- from that to what a call promises: the checks before the verdict did not apply, the board after is good
+-- and the list long enough, so check answers by whether the board after is red.
 use mathlib.Core.Path.{_≡_, refl, sym, subst}
 use mathlib.Core.Bool.{true, false}
 use mathlib.Core.List.{List, [], _∷_, _++_}
@@ -20,7 +20,8 @@ use Rattle.board.specs.Numbers as answer
 use Rattle.board.specs.Saying.{boardSaying}
 use Rattle.board.specs.Told.{Told}
 use Rattle.board.specs.View.{View, view}
-use Rattle.board.proofs.AnswersLaws.{Lacks, NoneApplies, never-answered, refused-first, then-second, past-first}
+use Rattle.board.proofs.AnswersLaws.{Lacks, NoneApplies, never-answered}
+use Rattle.board.proofs.AnswersLaws.{refused-first, then-second, past-first}
 use Rattle.board.proofs.SayingLaws.{ViewFits, view-saying, saying-good}
 use Rattle.board.proofs.ToldLaws.{untouched}
 use Rattle.verdict.specs.Checked.{checkChecks, Checked}

@@ -21,8 +21,8 @@ pub record Flagged (r : Outcome) : Type 0 where
 abbrev pub refusedWith : Board → ℕ → Outcome
 refusedWith b number = record { answer = plainAnswer number; accepted = false; board = b }
 
--- The board `next` judged by the checks of check. Where none applies the outcome is that board, with the serial; else
--- it is the board b as it was, with the answer of check.
+-- The board `next` judged by the checks of check. Where none applies the outcome is that board, with the
+-- serial; else it is the board b as it was, with the answer of check.
 pub record Judges (b next : Board) (serial : ℕ) (before after : List ℕ) (r : Outcome) : Type 0 where
   pub number : Answers (checkChecks next (length before)) (r .answer .number)
   pub accepted : r .answer .number ≡ answer.done → (r .board ≡ next) × (r .answer .serial .0 ≡ serial)

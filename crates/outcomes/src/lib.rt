@@ -5,8 +5,8 @@ use board::Serial;
 ghost use mathlib.Core.Path.{_≡_};
 ghost use Rattle.outcomes.specs.Outcomes.{refusedWith, Judges};
 
-// The answer, whether the call was accepted, and the board: the one after the call, or where it is refused the one
-// given.
+// The answer, whether the call was accepted, and the board: the one after the call, or where it is refused
+// the one given.
 pub struct Outcome {
     pub answer: Answer,
     pub accepted: bool,

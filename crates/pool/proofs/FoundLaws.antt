@@ -1,5 +1,5 @@
--- What a search for a serial tells: where none is found no open duty has it; and what is found is the open duty that
--- has it.
+-- What a search for a serial tells: where none is found no open duty has it; and what is found is the open
+-- duty that has it.
 use mathlib.Core.Path.{_≡_, sym, ap, _∙_, subst}
 use mathlib.Core.Logic.{⊎-elim}
 use mathlib.Core.Bool.{Bool, true, false, true≢false}

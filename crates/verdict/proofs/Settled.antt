@@ -1,5 +1,5 @@
--- What check promises settles its outcome: two that keep the promise have one number, and they are one answer and
--- leave the same list, once the failing order is chosen.
+-- What check promises settles its outcome: two that keep the promise have one number, and they are one
+-- answer and leave the same list, once the failing order is chosen.
 use mathlib.Core.Path.{_≡_, sym, _∙_}
 use mathlib.Core.List.{List}
 use Prim.Native.Nat.{ℕ}
@@ -21,4 +21,5 @@ module _
 
     pub same-check : OneOrder (p .told) (q .told) → (r ≡ r′) × (after ≡ after′)
     same-check =
-        same-told (view b) before after after′ r r′ same-number (p .serial ∙ sym (q .serial)) (p .told) (q .told)
+        same-told (view b) before after after′ r r′ same-number (p .serial ∙ sym (q .serial)) (p .told)
+        (q .told)

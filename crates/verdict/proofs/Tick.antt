@@ -1,5 +1,5 @@
--- The tick of check: it answers 0 exactly if the board value is good, the lent list is long enough, and the board
--- is green.
+-- The tick of check: it answers 0 exactly if the board value is good, the lent list is long enough, and the
+-- board is green.
 use mathlib.Core.Path.{_≡_, refl, subst}
 use mathlib.Core.Logic.{_↔_}
 use mathlib.Core.Bool.{true}
@@ -41,8 +41,10 @@ module _ (b : Board) (before after : List ℕ) (r : Answer) (c : Checked b befor
 
   ticked→done : Ticked b (length before) → r .number ≡ answer.done
   ticked→done t =
-      none-done (checkChecks b (length before)) (r .number)
-      (λ e. clash (t .whole) e, (λ h. let k = t .list in omega arith, (λ s. red-not-green (view b) s (t .green), tt)))
+      none-done (checkChecks b (length before)) (r .number) (
+        λ e. clash (t .whole) e,
+        (λ h. let k = t .list in omega arith, (λ s. red-not-green (view b) s (t .green), tt)),
+      )
       (c .number)
 
   pub check-ticks : (r .number ≡ answer.done) ↔ Ticked b (length before)

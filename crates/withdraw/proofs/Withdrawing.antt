@@ -1,4 +1,5 @@
--- The two outcomes of withdraw: an earlier check refuses; or none applies, and the board without the duty is judged.
+-- The two outcomes of withdraw: an earlier check refuses; or none applies, and the board without the duty
+-- is judged.
 use mathlib.Core.Path.{_≡_, refl, _∙_, subst}
 use mathlib.Core.Bool.{true}
 use mathlib.Core.List.{List}

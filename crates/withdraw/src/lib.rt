@@ -5,7 +5,6 @@ use board::Serial;
 use outcomes::Outcome;
 use pool::Found;
 use requests::AskWithdraw;
-ghost use mathlib.Core.Path.{_≡_};
 ghost use Rattle.board.specs.Answers.{Answers};
 ghost use Rattle.outcomes.specs.Outcomes.{Flagged};
 ghost use Rattle.withdraw.specs.Withdraws.{withdrawEarlier, Withdraws};
@@ -35,7 +34,8 @@ fn refusal(b: Board, room: usize, q: AskWithdraw) -> u8
 
 // Withdraw: 19, 9, 10, 12, 8.
 pub fn withdraw(b: Board, list: &mut [u32], q: AskWithdraw) -> Outcome
-    ensures { λ r. ⌜ Withdraws b (now (list .entry)) q (r .answer) (r .board) (now (list .exit)) × Flagged r ⌝ }
+    ensures { λ r.
+        ⌜ Withdraws b (now (list .entry)) q (r .answer) (r .board) (now (list .exit)) × Flagged r ⌝ }
 {
     let number = refusal(b, list.len(), q);
     if number != Answer::DONE {

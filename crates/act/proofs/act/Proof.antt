@@ -1,5 +1,5 @@
 -- `act::act` meets its contract: an earlier check refuses, or the board with the change made is judged.
-use mathlib.Core.Path.{_≡_, ap, _∙_}
+use mathlib.Core.Path.{ap, _∙_}
 use borrow.Author.Needs.{needs}
 use Rattle.board.specs.Filler.{Sized}
 use Rattle.board.proofs.Sized.{sized}

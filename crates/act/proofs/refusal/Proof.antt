@@ -1,5 +1,5 @@
--- `act::refusal` meets its contract. Past each test the check of that number does not apply, so the answer to the
--- checks left is the answer to all; each return answers the first of them.
+-- `act::refusal` meets its contract. Past each test the check of that number does not apply, so the answer
+-- to the checks left is the answer to all; each return answers the first of them.
 use mathlib.Core.Path.{_≡_, refl, sym, ap, _∙_}
 use mathlib.Core.Logic.{inl, inr}
 use mathlib.Core.Bool.{true}
@@ -54,7 +54,8 @@ start4 c = start3 (c .before .before .before)
 
 past4 : (c : tie.Else4) → Past (start4 c) 4
 past4 c n a =
-    let fits = sym (c .before .doing-fits .ensures) ∙ not-false (c .before .doing-fits .result) (c .if4 .left) in
+    let tested = c .before .doing-fits in
+    let fits = sym (tested .ensures) ∙ not-false (tested .result) (c .if4 .left) in
     past3 (c .before .before .before) n (inr (λ e. clash fits e, a))
 
 -- what `permitted` answers is what the definition says of the board
@@ -99,7 +100,8 @@ doing-fits-requires c κs = search needs
 
 returns-4 : tie.Need-returns-4
 returns-4 c =
-    let fails = sym (c .before .doing-fits .ensures) ∙ not-true (c .before .doing-fits .result) (c .if4 .taken) in
+    let tested = c .before .doing-fits in
+    let fails = sym (tested .ensures) ∙ not-true (tested .result) (c .if4 .taken) in
     past3 (c .before .before .before) _ (inl (fails, refl))
 
 what-of-requires : tie.Need-what-of-requires

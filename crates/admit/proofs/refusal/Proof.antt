@@ -1,10 +1,10 @@
--- `admit::refusal` meets its contract. Past each test the check of that number does not apply, so the answer to the
--- checks left is the answer to all; each return answers the first of them.
+-- `admit::refusal` meets its contract. Past each test the check of that number does not apply, so the
+-- answer to the checks left is the answer to all; each return answers the first of them.
 use mathlib.Core.Path.{_≡_, refl, sym, ap, _∙_}
 use mathlib.Core.Logic.{inl, inr}
-use mathlib.Core.Bool.{true, false}
+use mathlib.Core.Bool.{true}
 use mathlib.Core.List.{List}
-use Prim.Native.Nat.{ℕ, _<_}
+use Prim.Native.Nat.{ℕ}
 use native.Mathlib.Omega.{arith}
 use lib.ListN.{length, drop}
 use lib.Seq.{length-take-le}
@@ -13,12 +13,11 @@ use Rattle.orders.proofs.Tests.{clash, not-true, not-false}
 use Rattle.board.specs.After.{withSerial}
 use Rattle.board.specs.Answers.{Check, Answers}
 use Rattle.board.specs.Good.{good}
-use Rattle.board.specs.Limits.{maxDuties, maxNext}
 use Rattle.board.specs.View.{view}
 use Rattle.board.specs.Windows.{windowFits}
 use Rattle.board.proofs.GoodLaws.{good→counts}
 use Rattle.board.proofs.Sized.{sized}
-use Rattle.requests.specs.Requests.{doingFits, asked}
+use Rattle.requests.specs.Requests.{asked}
 use Rattle.admit.specs.Admits.{admitEarlier}
 use Rattle.admit.proofs.refusal.Statement.{statement}
 use Rattle.admit.proofs.refusal.Tie as tie
@@ -58,7 +57,8 @@ start4 c = start3 (c .before .before .before)
 
 past4 : (c : tie.Else4) → Past (start4 c) 4
 past4 c n a =
-    let fits = sym (c .before .doing-fits .ensures) ∙ not-false (c .before .doing-fits .result) (c .if4 .left) in
+    let tested = c .before .doing-fits in
+    let fits = sym (tested .ensures) ∙ not-false (tested .result) (c .if4 .left) in
     past3 (c .before .before .before) n (inr (λ e. clash fits e, a))
 
 abbrev start5 : tie.Else5 → tie.Start
@@ -123,7 +123,8 @@ doing-fits-requires c κs = search needs
 
 returns-4 : tie.Need-returns-4
 returns-4 c =
-    let fails = sym (c .before .doing-fits .ensures) ∙ not-true (c .before .doing-fits .result) (c .if4 .taken) in
+    let tested = c .before .doing-fits in
+    let fails = sym (tested .ensures) ∙ not-true (tested .result) (c .if4 .taken) in
     past3 (c .before .before .before) _ (inl (fails, refl))
 
 duty-asked-requires : tie.Need-duty-asked-requires

@@ -1,7 +1,5 @@
 -- `admit::with_duty` meets its contract: the duty stands in the first place of the room that is left.
 use Prim.Native.Nat.{_<_}
-use native.Mathlib.Omega.{arith}
-use lib.ListN.{length}
 use borrow.Author.Needs.{needs}
 use Rattle.board.specs.Filler.{Sized}
 use Rattle.board.specs.Limits.{maxDuties}
@@ -38,7 +36,8 @@ add-after c = let h = few (c .before .before .before) in search needs
 returns : tie.Need-returns
 returns c =
     let s = c .before .before .before .before in
-    added (s .args .b) (size s) (s .pre .0) (s .pre .1) (s .args .q) _ (c .before .before .duty-asked .ensures)
+    added (s .args .b) (size s) (s .pre .0) (s .pre .1) (s .args .q) _
+    (c .before .before .duty-asked .ensures)
 
 pub with-duty-spec : {M : Type 1} → statement M
 with-duty-spec =

@@ -1,5 +1,5 @@
--- `do_duty::do_duty` meets its contract: 19 or 10; 12, where the search finds none; 13, 14 or 15 of the duty found; or
--- it is taken out and its change made.
+-- `do_duty::do_duty` meets its contract: 19 or 10; 12, where the search finds none; 13, 14 or 15 of the
+-- duty found; or it is taken out and its change made.
 use mathlib.Core.Path.{_≡_, refl, sym, _∙_, subst}
 use mathlib.Core.Logic.{inl}
 use mathlib.Core.Bool.{true}
@@ -48,12 +48,14 @@ is-found c =
 answers-here :
     (c : tie.After-known-told) (n : ℕ)
     → let s = start (passed c) in
-    Answers (dutyChecks (s .args .b) (duty c) (s .args .q .clock)) n → Answers (doChecks (s .args .b) (s .args .q)) n
+    Answers (dutyChecks (s .args .b) (duty c) (s .args .q .clock)) n
+    → Answers (doChecks (s .args .b) (s .args .q)) n
 answers-here c n a =
     let p = passed c in
     let s = start p in
-    past-board (s .args .b) (s .args .q) (p .before .board-refusal .result) (p .before .board-refusal .ensures)
-    (p .if1 .left) n (past-open (s .args .b) (good-here p) (s .args .q) (duty c) (is-found c) n a)
+    let tested = p .before .board-refusal in
+    past-board (s .args .b) (s .args .q) (tested .result) (tested .ensures) (p .if1 .left) n
+    (past-open (s .args .b) (good-here p) (s .args .q) (duty c) (is-found c) n a)
 
 -- ---- the needs
 
@@ -93,10 +95,11 @@ returns-2 c =
     let sought = c .before .before .before in
     let p = sought .before .before .before .before in
     let s = start p in
+    let tested = p .before .board-refusal in
     let missing = sym (sought .with-serial .ensures) ∙ c .before .enum-told .given .1 in
     refused-does (s .args .b) (s .args .q) (c .refused2 .result) _ (c .refused2 .ensures)
-    (past-board (s .args .b) (s .args .q) (p .before .board-refusal .result) (p .before .board-refusal .ensures)
-    (p .if1 .left) _ (inl (found-missing (view (s .args .b)) (s .args .q .serial .0) missing, refl)))
+    (past-board (s .args .b) (s .args .q) (tested .result) (tested .ensures) (p .if1 .left) _
+    (inl (found-missing (view (s .args .b)) (s .args .q .serial .0) missing, refl)))
     (λ e. omega arith)
 
 duty-refusal-requires : tie.Need-duty-refusal-requires
@@ -112,7 +115,8 @@ returns-3 c =
     let s = start (passed found) in
     refused-does (s .args .b) (s .args .q) (c .refused3 .result) (tested .duty-refusal .result)
     (c .refused3 .ensures)
-    (answers-here found (tested .duty-refusal .result) (tested .duty-refusal .ensures)) (c .before .if2 .taken)
+    (answers-here found (tested .duty-refusal .result) (tested .duty-refusal .ensures))
+    (c .before .if2 .taken)
 
 withdrawn-requires : tie.Need-withdrawn-requires
 withdrawn-requires c κs = search needs
@@ -133,7 +137,8 @@ returns-4 c =
     let b = s .args .b in
     let q = s .args .q in
     let passes = left .before .if2 .left in
-    let answers = subst (Answers (dutyChecks b (duty found) (q .clock))) passes (tested .duty-refusal .ensures) in
+    let checks = dutyChecks b (duty found) (q .clock) in
+    let answers = subst (Answers checks) passes (tested .duty-refusal .ensures) in
     done-does b (good-here (passed found)) q (duty found) (is-found found) (sized b _ (s .good .0))
     (c .done .result) (left .withdrawn .result) (acted .acted .result) (c .done .ensures)
     (left .withdrawn .ensures) (acted .acted .ensures) (answers-here found _ answers)

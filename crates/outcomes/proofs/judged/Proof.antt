@@ -25,8 +25,8 @@ returns-2 : tie.Need-returns-2
 returns-2 c =
     let passed = c .before in
     let checked = passed .before .before .before .before in
-    judged-accepted _ _ _ _ _ (checked .check .result) (checked .check .ensures) (c .done .result) (c .done .ensures)
-    (passed .if1 .left)
+    judged-accepted _ _ _ _ _ (checked .check .result) (checked .check .ensures) (c .done .result)
+    (c .done .ensures) (passed .if1 .left)
 
 pub judged-spec : {M : Type 1} → statement M
 judged-spec =

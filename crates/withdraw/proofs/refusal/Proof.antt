@@ -1,5 +1,5 @@
--- `withdraw::refusal` meets its contract. Past each test the check of that number does not apply, so the answer to the
--- checks left is the answer to all; each return answers the first of them.
+-- `withdraw::refusal` meets its contract. Past each test the check of that number does not apply, so the
+-- answer to the checks left is the answer to all; each return answers the first of them.
 use mathlib.Core.Path.{_≡_, refl, sym, _∙_}
 use mathlib.Core.Logic.{inl, inr}
 use mathlib.Core.Bool.{true}
