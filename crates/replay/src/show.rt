@@ -78,7 +78,7 @@ struct Doing {
     pub second: u16,
 }
 
-fn doing(what: What) -> Doing {
+fn numbers_of(what: What) -> Doing {
     match what {
         What::Grant { target, role } => Doing {
             action: 0,
@@ -102,7 +102,7 @@ fn doing(what: What) -> Doing {
 fn put_duty(out: &mut [u8; ROOM], at: usize, d: Duty) -> usize {
     let serial = d.serial;
     let what = d.what;
-    let told = doing(what);
+    let told = numbers_of(what);
     let numbers = [
         serial.0,
         d.doer as u32,
