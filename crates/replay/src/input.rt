@@ -4,7 +4,7 @@ ghost use Prim.Native.Nat.{_≤_};
 ghost use lib.ListN.{length};
 
 // How many bytes a record takes.
-const SIZE: usize = 32;
+pub(crate) const SIZE: usize = 32;
 
 // How many bytes stand before the board file.
 const BEFORE: usize = 4;
@@ -29,56 +29,57 @@ fn byte(s: &[u8], at: usize) -> u8 {
     if at < s.len() { s[at] } else { 0 }
 }
 
-// The number in two bytes.
-fn two(s: &[u8], at: usize) -> u16 {
-    let low = byte(s, at);
-    let high = byte(s, at + 1);
+// The number in two bytes, so far into a record.
+fn two(s: &[u8], at: u8) -> u16 {
+    let low = byte(s, at as usize);
+    let high = byte(s, at as usize + 1);
     low as u16 + 256 * (high as u16)
 }
 
-// The number in four bytes.
-fn four(s: &[u8], at: usize) -> u32 {
+// The number in four bytes, so far into a record.
+fn four(s: &[u8], at: u8) -> u32 {
     let low = two(s, at);
-    let high = two(s, at + 2);
-    low as u32 + 65536 * (high as u32)
+    let third = byte(s, at as usize + 2);
+    let fourth = byte(s, at as usize + 3);
+    low as u32 + 65536 * (third as u32) + 16777216 * (fourth as u32)
 }
 
 // The lesser of two.
-fn lesser(a: usize, b: usize) -> usize {
+fn lesser(a: usize, b: usize) -> usize
+    ensures { λ r. ⌜ (r ≤ a) × (r ≤ b) ⌝ }
+{
     if a < b { a } else { b }
 }
 
 // Where the board file starts: at the end of an input that is too short to say its length.
-pub(crate) fn file_start(s: &[u8]) -> usize {
+pub(crate) fn file_start(s: &[u8]) -> usize
+    ensures { λ r. ⌜ r ≤ length (now (s .entry)) ⌝ }
+{
     lesser(BEFORE, s.len())
 }
 
-// Where the board file ends.
-pub(crate) fn file_end(s: &[u8]) -> usize {
-    let start = file_start(s);
+// Where the board file that starts there ends.
+pub(crate) fn file_end(s: &[u8], start: usize) -> usize
+    requires { ⌜ start ≤ length (now s) ⌝ }
+    ensures { λ r. ⌜ (start ≤ r) × (r ≤ length (now (s .entry))) ⌝ }
+{
     let n = four(s, 0) as usize;
     start + lesser(n, s.len() - start)
 }
 
-// How many whole records there are from a place on.
-pub(crate) fn records_from(s: &[u8], at: usize) -> usize {
-    if at < s.len() { (s.len() - at) / SIZE } else { 0 }
-}
-
-// The k-th of the records from a place on.
-pub(crate) fn record_at(s: &[u8], from: usize, k: usize) -> Record {
-    let at = from + SIZE * k;
+// The record at the start of these bytes.
+pub(crate) fn record_of(s: &[u8]) -> Record {
     Record {
-        kind: two(s, at),
-        lent: two(s, at + 2),
-        doer: two(s, at + 4),
-        action: two(s, at + 6),
-        first: two(s, at + 8),
-        second: two(s, at + 10),
-        start: four(s, at + 12),
-        end: four(s, at + 16),
-        clock: four(s, at + 20),
-        serial: four(s, at + 24),
-        extra: four(s, at + 28),
+        kind: two(s, 0),
+        lent: two(s, 2),
+        doer: two(s, 4),
+        action: two(s, 6),
+        first: two(s, 8),
+        second: two(s, 10),
+        start: four(s, 12),
+        end: four(s, 16),
+        clock: four(s, 20),
+        serial: four(s, 24),
+        extra: four(s, 28),
     }
 }

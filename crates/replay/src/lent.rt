@@ -1,8 +1,9 @@
 // The lists that are lent to the calls. Each entry holds a first value that tells its place, so that what was
 // written and what was left can be told apart.
 use board::Answer;
+ghost use Prim.Native.Nat.{_≤_};
 
-// The longest list that is lent.
+// The room for the lists: no longer one is lent.
 pub(crate) const LENT: usize = 256;
 
 // The first value of an entry is this and its place.
@@ -15,7 +16,9 @@ pub(crate) enum Lists {
 }
 
 // How many entries are lent to a call that asks for so many.
-pub(crate) fn lent_by(lent: u16) -> usize {
+pub(crate) fn lent_by(lent: u16) -> usize
+    ensures { λ r. ⌜ r ≤ 256 ⌝ }
+{
     let n = lent as usize;
     if n < LENT { n } else { LENT }
 }
@@ -46,9 +49,9 @@ fn is_marked(list: &[u32], from: usize) -> bool {
     true
 }
 
-// Whether each entry was kept that a call with this answer may not write: with 8 those after the failing order,
-// else all.
-pub(crate) fn is_kept(list: &[u32], answer: Answer) -> bool {
+// Whether each entry was kept that a call with this answer may not write: with 8 those after the failing
+// order, else all.
+pub(crate) fn is_kept(list: &[u32; LENT], answer: Answer) -> bool {
     if answer.number == Answer::RED {
         is_marked(list, answer.length)
     } else {

@@ -1,5 +1,5 @@
-// Reads a board file and calls from standard input, opens the board, makes the calls one after the other on the
-// live board, and prints every answer and, at the end, the board. docs/REPLAY.md has the format.
+// Reads a board file and calls from standard input, opens the board, makes the calls one after the other on
+// the live board, and prints every answer and, at the end, the board. docs/REPLAY.md has the format.
 mod call;
 mod input;
 mod lent;
@@ -7,14 +7,13 @@ mod poke;
 mod show;
 mod text;
 
-use board::Answer;
 use board::Board;
 use call::called;
 use input::Record;
+use input::SIZE;
 use input::file_end;
 use input::file_start;
-use input::record_at;
-use input::records_from;
+use input::record_of;
 use lent::LENT;
 use lent::Lists;
 use lent::is_kept;
@@ -39,9 +38,10 @@ struct Live {
 
 // Open a board file, and put the line of the opening.
 fn opened(file: &[u8], out: &mut [u8; ROOM]) -> Live {
-    let mut list = [0u32; Board::DUTIES];
+    let mut list = [0u32; LENT];
     mark(&mut list);
-    let opening = calls::open(file, &mut list);
+    let n = Board::DUTIES;
+    let opening = calls::open(file, &mut list[0..n]);
     let answer = opening.answer;
     let board = opening.board;
     let here = put_opening(out, 0, answer, &list);
@@ -55,7 +55,7 @@ fn answered(live: Live, r: Record, number: usize, out: &mut [u8; ROOM]) -> Live 
     mark(&mut list);
     let n = lent_by(r.lent);
     let before = live.board;
-    let outcome = called(before, r, &mut list[..n]);
+    let outcome = called(before, r, &mut list[0..n]);
     let answer = outcome.answer;
     let board = outcome.board;
     let here = put_answer(out, live.here, answer, &list);
@@ -91,17 +91,18 @@ fn turn(live: Live, r: Record, number: usize, out: &mut [u8; ROOM]) -> Live {
     }
 }
 
-// The board file and then the records, in turn.
+// The board file, and then the whole records in turn.
 fn replay(s: &[u8], out: &mut [u8; ROOM]) -> Live {
     let first = file_start(s);
-    let end = file_end(s);
-    let count = records_from(s, end);
+    let end = file_end(s, first);
     let mut live = opened(&s[first..end], out);
-    let mut k: usize = 0;
-    while k < count {
-        let r = record_at(s, end, k);
-        k += 1;
-        let next = turn(live, r, k, out);
+    let mut number: usize = 0;
+    let mut at = end;
+    while SIZE <= s.len() - at {
+        let r = record_of(&s[at..]);
+        at += SIZE;
+        number += 1;
+        let next = turn(live, r, number, out);
         live = next;
     }
     live

@@ -16,18 +16,17 @@ fn low(value: u32) -> u16 {
 
 // 0 to 6: a count, the clock or the next serial.
 fn with_count(b: Board, first: u16, value: u32) -> Board {
+    let count = low(value);
+    let next = Serial(value);
     let mut after = b;
     match first {
-        0 => after.counts.users = low(value),
-        1 => after.counts.roles = low(value),
-        2 => after.counts.permissions = low(value),
-        3 => after.counts.rules = low(value),
-        4 => after.counts.duties = low(value),
+        0 => after.counts.users = count,
+        1 => after.counts.roles = count,
+        2 => after.counts.permissions = count,
+        3 => after.counts.rules = count,
+        4 => after.counts.duties = count,
         5 => after.clock = value,
-        _ => {
-            let next = Serial(value);
-            after.next = next;
-        }
+        _ => after.next = next,
     }
     after
 }

@@ -1,4 +1,5 @@
 // The lines: an opening, an answer, and at the end the board and whether the lent lists were kept.
+use crate::lent::LENT;
 use crate::lent::Lists;
 use crate::text::ROOM;
 use crate::text::put;
@@ -8,13 +9,21 @@ use board::Answer;
 use board::Board;
 use board::Duty;
 use board::What;
+ghost use Prim.Native.Nat.{_≤_};
 
 // The lesser of two.
-fn lesser(a: usize, b: usize) -> usize {
+fn lesser(a: usize, b: usize) -> usize
+    ensures { λ r. ⌜ (r ≤ a) × (r ≤ b) ⌝ }
+{
     if a < b { a } else { b }
 }
 
 // ---- answers
+
+// Put a space and a number of a list.
+fn put_entry(out: &mut [u8; ROOM], at: usize, entry: u32) -> usize {
+    put_next(out, at, entry as u64)
+}
 
 // Put the first n numbers of a list, each after a space, and end the line.
 fn put_list(out: &mut [u8; ROOM], at: usize, list: &[u32], n: usize) -> usize {
@@ -22,15 +31,19 @@ fn put_list(out: &mut [u8; ROOM], at: usize, list: &[u32], n: usize) -> usize {
     let mut here = at;
     let mut i: usize = 0;
     while i < count {
-        let number = list[i];
-        here = put_next(out, here, number as u64);
+        here = put_entry(out, here, list[i]);
         i += 1;
     }
     put(out, here, b"\n")
 }
 
 // The line of the opening: its number, and the failing order.
-pub(crate) fn put_opening(out: &mut [u8; ROOM], at: usize, answer: Answer, list: &[u32]) -> usize {
+pub(crate) fn put_opening(
+    out: &mut [u8; ROOM],
+    at: usize,
+    answer: Answer,
+    list: &[u32; LENT],
+) -> usize {
     let a = put(out, at, b"open");
     let b = put_next(out, a, answer.number as u64);
     let c = put_next(out, b, answer.length as u64);
@@ -38,7 +51,12 @@ pub(crate) fn put_opening(out: &mut [u8; ROOM], at: usize, answer: Answer, list:
 }
 
 // The line of an answer: its number, its serial, and the failing order.
-pub(crate) fn put_answer(out: &mut [u8; ROOM], at: usize, answer: Answer, list: &[u32]) -> usize {
+pub(crate) fn put_answer(
+    out: &mut [u8; ROOM],
+    at: usize,
+    answer: Answer,
+    list: &[u32; LENT],
+) -> usize {
     let serial = answer.serial;
     let a = put_number(out, at, answer.number as u64);
     let b = put_next(out, a, serial.0 as u64);

@@ -8,13 +8,13 @@ const DIGITS: usize = 20;
 
 // Put a byte at a place, and answer the place after it.
 fn put_byte(out: &mut [u8; ROOM], at: usize, byte: u8) -> usize {
-    let mut here = at;
-    if ROOM <= at {
-        io::write_all(1, out);
-        here = 0;
+    if at < ROOM {
+        out[at] = byte;
+        return at + 1;
     }
-    out[here] = byte;
-    here + 1
+    io::write_all(1, out);
+    out[0] = byte;
+    1
 }
 
 // Put bytes at a place, and answer the place after them.
@@ -42,9 +42,10 @@ pub(crate) fn put_next(out: &mut [u8; ROOM], at: usize, number: u64) -> usize {
     put_number(out, here, number)
 }
 
-// Write out what is left.
+// Write out what was gathered up to a place.
 pub(crate) fn write_out(out: &[u8; ROOM], at: usize) {
-    if at <= ROOM {
-        io::write_all(1, &out[..at]);
+    let bytes: &[u8] = out;
+    if at <= bytes.len() {
+        io::write_all(1, &bytes[0..at]);
     }
 }
