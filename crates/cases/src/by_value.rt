@@ -1,4 +1,4 @@
-// The calls by value. A layer that lends the board gets a file beside this one, with the same function.
+// The calls by value. Another way of making them has a file like this one, with the same function.
 use crate::steps::Ask;
 use board::Board;
 use outcomes::Outcome;

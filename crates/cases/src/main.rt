@@ -1,5 +1,5 @@
-// Document 01's small boards, run and compared: 1 to 11 as files that are opened, 12 to 14 call by call. A line for
-// each with what was told, and a last line with the number of differences from document 01.
+// Document 01's small boards, run and compared: 1 to 11 as files that are opened, 12 to 14 call by call. A line
+// for each with what was told, and a last line with the number of differences from document 01.
 mod boards;
 mod by_value;
 mod bytes;
@@ -10,16 +10,16 @@ use board::Answer;
 use board::Board;
 use boards::FILES;
 use boards::Small;
+use boards::board_of;
 use boards::file_of;
-use boards::small;
+use boards::opening_of;
 use by_value::called;
+use bytes::lesser;
 use calls::Opened;
 use steps::Case;
-use steps::Step;
 use steps::case_of;
 use steps::step_of;
 use wanted::Told;
-use wanted::Wanted;
 use wanted::is_wanted;
 
 // What stands in the lent list before a call: no serial.
@@ -28,14 +28,13 @@ const MARK: u32 = 4294967295;
 // ---- lines
 
 // Print a number after a space.
-fn number(n: u64) {
-    io::write_all(1, b" ");
-    io::print_decimal(1, n);
+fn number(n: u64) -> bool {
+    io::write_all(1, b" ") & io::print_decimal(1, n)
 }
 
-// The lesser of two.
-fn lesser(a: usize, b: usize) -> usize {
-    if a < b { a } else { b }
+// Print a serial of a failing order.
+fn print_serial(serial: u32) {
+    number(serial as u64);
 }
 
 // Print an answer: its number, its serial, and the failing order.
@@ -47,8 +46,7 @@ fn print_answer(answer: Answer, list: &[u32]) {
     let count = lesser(answer.length, list.len());
     let mut i: usize = 0;
     while i < count {
-        let entry = list[i];
-        number(entry as u64);
+        print_serial(list[i]);
         i += 1;
     }
 }
@@ -69,7 +67,7 @@ fn end_line(right: bool) -> u32 {
 fn opened(board: Small, list: &mut [u32]) -> Opened {
     let mut bytes = [0u8; 256];
     let n = file_of(board, &mut bytes);
-    calls::open(&bytes[..n], list)
+    calls::open(&bytes[0..n], list)
 }
 
 // What was told of a board, and of user 1 and the open duties on it.
@@ -81,22 +79,29 @@ fn told_of(answer: Answer, board: Board) -> Told {
     }
 }
 
+// Print which file the k-th is.
+fn print_name(k: u8) {
+    match k {
+        12 => io::write_all(1, b"case 6b"),
+        13 => io::write_all(1, b"case 9b"),
+        _ => {
+            io::write_all(1, b"case");
+            number(k as u64)
+        }
+    }
+    ;
+}
+
 // Open the k-th file, and compare the answer.
 fn open_case(k: u8) -> u32 {
-    let case = small(k);
     let mut list = [MARK; Board::DUTIES];
-    let opening = opened(case, &mut list);
+    let opening = opened(board_of(k), &mut list);
     let answer = opening.answer;
     let board = opening.board;
-    io::write_all(1, b"case");
-    number(case.number as u64);
-    if case.variant {
-        io::write_all(1, b"b");
-    }
+    print_name(k);
     io::write_all(1, b":");
     print_answer(answer, &list);
-    let wanted = case.wanted;
-    end_line(is_wanted(wanted, told_of(answer, board), &list))
+    end_line(is_wanted(opening_of(k), told_of(answer, board), &list))
 }
 
 // Open every file.
@@ -119,7 +124,7 @@ struct Turn {
 }
 
 // Make the call of a step, by value, and compare the answer and the board.
-fn turn(case: Case, k: u8, before: Turn) -> Turn {
+fn made(case: Case, k: u8, before: Turn) -> Turn {
     let step = step_of(case.number, k);
     let mut list = [MARK; Board::DUTIES];
     let ask = step.ask;
@@ -145,17 +150,17 @@ fn turn(case: Case, k: u8, before: Turn) -> Turn {
 fn run(number: u8) -> u32 {
     let case = case_of(number);
     let mut list = [MARK; Board::DUTIES];
-    let opening = opened(small(case.file), &mut list);
+    let opening = opened(board_of(case.file), &mut list);
     let board = opening.board;
     let mut now = Turn {
         board,
         differences: 0,
     };
-    let mut k: u8 = 1;
-    while k <= case.steps {
-        let next = turn(case, k, now);
-        now = next;
+    let mut k: u8 = 0;
+    while k < case.steps {
         k += 1;
+        let next = made(case, k, now);
+        now = next;
     }
     now.differences
 }

@@ -1,5 +1,5 @@
-// Document 01's small boards 12 to 14: the calls in turn, each with its answer, what user 1 holds from then on, and
-// how many duties are open.
+// Document 01's small boards 12 to 14: the calls in turn, each with its answer, what user 1 holds from then on,
+// and how many duties are open.
 use crate::wanted::Wanted;
 use crate::wanted::admitted;
 use crate::wanted::plainly;
@@ -96,30 +96,30 @@ fn admitting(start: u32, end: u32, clock: u32) -> Ask {
 
 // ---- the steps
 
+fn stepping(ask: Ask, wanted: Wanted) -> Step {
+    Step { ask, wanted }
+}
+
 // Case 2, calls in turn.
 fn step_of_12(k: u8) -> Step {
     match k {
-        1 => step(doing(2, 13), plainly(Answer::HELD_BACK, 0, 2)),
-        2 => step(doing(1, 6), plainly(Answer::OUTSIDE, 0, 2)),
-        3 => step(doing(1, 8), plainly(Answer::DONE, 2, 1)),
-        4 => step(doing(1, 8), plainly(Answer::NOT_OPEN, 2, 1)),
-        5 => step(revoking(10), red(1, [2, 0, 0], 2, 1)),
-        6 => step(doing(2, 9), plainly(Answer::OUTSIDE, 2, 1)),
-        7 => step(doing(2, 7), plainly(Answer::CLOCK, 2, 1)),
-        _ => step(doing(2, 20), plainly(Answer::DONE, 2, 0)),
+        1 => stepping(doing(2, 13), plainly(Answer::HELD_BACK, 0, 2)),
+        2 => stepping(doing(1, 6), plainly(Answer::OUTSIDE, 0, 2)),
+        3 => stepping(doing(1, 8), plainly(Answer::DONE, 2, 1)),
+        4 => stepping(doing(1, 8), plainly(Answer::NOT_OPEN, 2, 1)),
+        5 => stepping(revoking(10), red(1, [2, 0, 0], 2, 1)),
+        6 => stepping(doing(2, 9), plainly(Answer::OUTSIDE, 2, 1)),
+        7 => stepping(doing(2, 7), plainly(Answer::CLOCK, 2, 1)),
+        _ => stepping(doing(2, 20), plainly(Answer::DONE, 2, 0)),
     }
 }
 
 // Case 2: withdraw 1, and withdraw 2.
 fn step_of_13(k: u8) -> Step {
     match k {
-        1 => step(withdrawing(1, 0), red(1, [2, 0, 0], 0, 2)),
-        _ => step(withdrawing(2, 0), plainly(Answer::DONE, 0, 1)),
+        1 => stepping(withdrawing(1, 0), red(1, [2, 0, 0], 0, 2)),
+        _ => stepping(withdrawing(2, 0), plainly(Answer::DONE, 0, 1)),
     }
-}
-
-fn step(ask: Ask, wanted: Wanted) -> Step {
-    Step { ask, wanted }
 }
 
 // The k-th step of a case, from 1 on. Case 14 has one: case 1, admit a grant.
@@ -127,6 +127,6 @@ pub(crate) fn step_of(number: u8, k: u8) -> Step {
     match number {
         12 => step_of_12(k),
         13 => step_of_13(k),
-        _ => step(admitting(1, 3, 10), admitted(1, 0, 1)),
+        _ => stepping(admitting(1, 3, 10), admitted(1, 0, 1)),
     }
 }
