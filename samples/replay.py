@@ -1,5 +1,5 @@
 #!/usr/bin/env python3
-"""replay.py LISTING > INPUT: makes an input of `replay` from a board file and calls in words. Needs Python 3 alone.
+"""replay.py LISTING > INPUT: makes an input of `replay` from a board file and calls in words. Needs Python 3.
 
 The lines of a listing, in turn:
     file PATH                                        the board file, from the listing's folder; first of all
@@ -13,8 +13,8 @@ The lines of a listing, in turn:
     broken .. back OLD                               a poke, each of the five calls, and a poke back to OLD
     kind NUMBER                                      a record of another kind
     bytes COUNT                                      so many zeros, for an incomplete last record
-At the end of a line FIELD=NUMBER sets a field of the record otherwise; lent is 128 where it is not set. `times N`
-before a line repeats it, and a number A+Bk in it grows by B each time. `#` starts a comment."""
+At the end of a line FIELD=NUMBER sets a field of the record otherwise; lent is 128 where it is not set.
+`times N` before a line repeats it, and a number A+Bk in it grows by B each time. `#` starts a comment."""
 import os
 import re
 import struct
@@ -80,9 +80,8 @@ def records(words):
     if words[0] == 'bytes':
         return bytes(int(words[1]))
     if words[0] == 'broken':
-        place = words[1:-3]
-        calls = [['poke'] + words[1:-2]] + [call.split() for call in EACH_CALL] + [['poke'] + place + words[-1:]]
-        return b''.join(record(call) for call in calls)
+        there, back = ['poke'] + words[1:-2], ['poke'] + words[1:-3] + words[-1:]
+        return b''.join(record(call) for call in [there] + [call.split() for call in EACH_CALL] + [back])
     return record(words)
 
 

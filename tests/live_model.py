@@ -1,7 +1,7 @@
-"""live_model.py: the live board once more, in Python, written from document 01 alone. It shares nothing with the
-crates: its own reading of a board file, its own test of a board value, its own verdict (every allowed order walked,
-or for large pools the criterion of document 01's fact), its own calls. `replayed` gives the lines that `replay` has
-to print for an input. Needs Python 3 alone."""
+"""live_model.py: the live board once more, in Python, written from document 01 alone. It shares nothing with
+the crates: its own reading of a board file, its own test of a board value, its own verdict (every allowed order
+walked, or for large pools the criterion of document 01's fact), its own calls. `replayed` gives the lines that
+`replay` has to print for an input. Needs Python 3 alone."""
 import struct
 
 USERS, ROLES, PERMISSIONS, RULES, DUTIES = 64, 32, 512, 64, 128
@@ -185,7 +185,8 @@ def can_be_wrong(board, d, user, role, right):
         if not any(wholly_before(g, d) and sets(g, user, role, right) for g in pool):
             return True
     return any(x is not d and sets(x, user, role, not right) and not wholly_before(d, x)
-               and not any(sets(g, user, role, right) and wholly_before(x, g) and wholly_before(g, d) for g in pool)
+               and not any(sets(g, user, role, right) and wholly_before(x, g) and wholly_before(g, d)
+                           for g in pool)
                for x in pool)
 
 
@@ -296,7 +297,8 @@ def admit(board, q):
     number = first_of((
         (19, lambda: not is_good(board)), (9, lambda: q.lent < DUTIES), (10, lambda: q.clock < board.clock),
         (11, lambda: not request_fits(board, q.doer, q.action, q.first, q.second)),
-        (7, lambda: q.start > q.end), (16, lambda: board.open == DUTIES), (17, lambda: board.next == LARGEST)))
+        (7, lambda: q.start > q.end), (16, lambda: board.open == DUTIES),
+        (17, lambda: board.next == LARGEST)))
     if number:
         return refused(board, number)
     after = board.copy()
@@ -322,7 +324,8 @@ def do(board, q):
     d = open_duty(board, q.serial)
     number = first_of((
         (19, lambda: not is_good(board)), (10, lambda: q.clock < board.clock), (12, lambda: d is None),
-        (13, lambda: not d[5] <= q.clock <= d[6]), (14, lambda: any(wholly_before(e, d) for e in board.pool())),
+        (13, lambda: not d[5] <= q.clock <= d[6]),
+        (14, lambda: any(wholly_before(e, d) for e in board.pool())),
         (15, lambda: not permitted(board, board.holdings, *d[1:5]))))
     if number:
         return refused(board, number)
@@ -408,7 +411,8 @@ class Line:
         length, order = given[len(before):len(before) + 1], given[len(before) + 1:]
         if given[:len(before)] != before or length != [str(len(order))] or text != ' '.join(given):
             return False
-        return all(w == str(int(w)) for w in order) and is_failing_order(self.red, [int(w) for w in order])
+        serials = [int(word) for word in order]
+        return [str(serial) for serial in serials] == order and is_failing_order(self.red, serials)
 
     def settled(self):
         """The line where it allows only one: the failing order has to be the only one."""
@@ -427,7 +431,8 @@ def board_lines(board):
     def told(word, numbers):
         return Line(' '.join([word] + [str(n) for n in numbers]))
 
-    yield told('board', (board.users, board.roles, board.permits, board.ruled, board.open, board.clock, board.next))
+    yield told('board', (board.users, board.roles, board.permits, board.ruled, board.open,
+                         board.clock, board.next))
     yield told('holds', board.holdings[:board.users])
     for d in board.pool():
         yield told('duty', d)

@@ -1,6 +1,6 @@
 #!/usr/bin/env python3
-"""replay_random.py [SESSIONS [SEED [PROGRAM]]]: random sessions through the program `replay`, every line compared
-with the model of live_model.py; failing orders are checked for truth. 2,000 sessions with seed 1, and
+"""replay_random.py [SESSIONS [SEED [PROGRAM]]]: random sessions through the program `replay`, every line
+compared with the model of live_model.py; failing orders are checked for truth. 2,000 sessions with seed 1, and
 target/bin/replay, where left out (`rt check replay` builds it). Not in the gate. Needs Python 3 alone."""
 import collections
 import os
@@ -40,7 +40,7 @@ def random_file(draw, base):
         users, roles = draw.choice(((64, 32), (64, 4), (2, 32)))
     holdings = [few(draw, roles) | (1 if u == 0 else 0) for u in range(users)]
     permissions = [(draw.randrange(roles), a, o) for a in (2, 63) for o in (0, 255) if draw.random() < 0.8]
-    rules = [(kind, 0 if draw.random() < 0.7 else draw.randrange(roles), role, few(draw, roles), few(draw, roles))
+    rules = [(kind, draw.choice((0, 0, 0, draw.randrange(roles))), role, few(draw, roles), few(draw, roles))
              for kind in (0, 1) for role in range(min(roles, 4)) if draw.random() < 0.9]
     duties, serial = [], 0
     for _ in range(draw.choice((0, 0, 1, 2, 3, 4, 5))):
@@ -51,7 +51,8 @@ def random_file(draw, base):
     board.clock, board.next = base + draw.randrange(4), serial + 1
     if draw.random() < 0.05:
         board.next = draw.choice((4294967293, 4294967294, 4294967295))
-    board.holdings[:users], board.permissions[:len(permissions)], board.rules[:len(rules)] = holdings, permissions, rules
+    board.holdings[:users] = holdings
+    board.permissions[:len(permissions)], board.rules[:len(rules)] = permissions, rules
     while True:
         board.with_pool(duties)
         if not duties or not model.is_red(board) or draw.random() < 0.1:
@@ -68,8 +69,9 @@ def file_of(board):
     offsets = [40]
     for part in parts:
         offsets.append(offsets[-1] + len(part))
-    return struct.pack('<6H7I', 1, board.users, board.roles, board.permits, board.ruled, board.open, board.clock,
-                       board.next, *offsets) + b''.join(parts)
+    header = struct.pack('<6H7I', 1, board.users, board.roles, board.permits, board.ruled, board.open,
+                         board.clock, board.next, *offsets)
+    return header + b''.join(parts)
 
 
 def with_slips(draw, file):
@@ -93,7 +95,8 @@ def packed(**fields):
 def old_value(board, first, second):
     """What a poke would set, as it is."""
     if first < 7:
-        return (board.users, board.roles, board.permits, board.ruled, board.open, board.clock, board.next)[first]
+        return (board.users, board.roles, board.permits, board.ruled, board.open,
+                board.clock, board.next)[first]
     part, field = ((board.holdings, None), (board.permissions, 0), (board.rules, 3), (board.duties, 5),
                    (board.duties, 6), (board.duties, 0), (board.duties, 1))[first - 7]
     if second >= len(part):
@@ -121,7 +124,7 @@ def call(draw, base, board):
     if kind == 2 and draw.random() < 0.8:
         clock = max(board.clock, d[5])
     fields = dict(kind=kind, lent=draw.choice((128,) * 16 + (0, 127, 129, 200, 256, 1000)),
-                  doer=0 if draw.random() < 0.5 else draw.randrange(board.users or 1), action=action, first=first,
+                  doer=draw.choice((0, draw.randrange(board.users or 1))), action=action, first=first,
                   second=second, start=start, end=end, clock=clock, serial=d[0])
     if draw.random() < 0.15:
         fields[draw.choice(model.Record.FIELDS[2:])] = draw.choice(EDGES)
@@ -152,7 +155,8 @@ def session(draw):
     file = with_slips(draw, random_file(draw, base))
     board, records = model.opened(file, 128)[2], []
     if draw.random() < 0.03:  # the pool is filled to its limit: one minute each, a grant or revoke by user 0
-        records += [packed(lent=128, action=draw.choice((0, 1)), start=base, end=base, clock=board.clock)] * 131
+        action = draw.choice((0, 1))
+        records += [packed(lent=128, action=action, start=base, end=base, clock=board.clock)] * 131
         for record in records:
             board = after(board, record)
     for _ in range(draw.choice((5, 20, 40))):
@@ -171,9 +175,8 @@ def main():
     lines = orders = longest = wrong = 0
     for i in range(count):
         whole = session(draw)
-        told = subprocess.run([program], input=whole, stdout=subprocess.PIPE, check=True).stdout.decode('ascii')
-        expected = model.replayed(whole)
-        printed = told.split('\n')
+        told = subprocess.run([program], input=whole, stdout=subprocess.PIPE, check=True).stdout
+        expected, printed = model.replayed(whole), told.decode('ascii').split('\n')
         bad = [(e.words, p) for e, p in zip(expected, printed) if not e.fits(p)]
         if bad or len(printed) != len(expected) + 1 or printed[-1] != '':
             wrong += 1
@@ -186,7 +189,7 @@ def main():
             elif first[0] == 'open':
                 openings[int(first[1])] += 1
         orders += sum(e.red is not None for e in expected)
-        longest = max([longest] + [int(p.split(' ')[2]) for e, p in zip(expected, printed) if e.red and p[0] == '8'])
+        longest = max([longest] + [int(line.split(' ')[2]) for line in printed if line.startswith('8 ')])
     print('sessions %d, lines %d, failing orders %d (longest %d)' % (count, lines, orders, longest))
     print('openings', ' '.join('%d:%d' % pair for pair in sorted(openings.items())))
     print('answers', ' '.join('%d:%d' % pair for pair in sorted(numbers.items())))

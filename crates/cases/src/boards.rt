@@ -1,6 +1,6 @@
 // Document 01's small boards 1 to 11 as files. User 0 holds role 0; user 1 holds nothing unless said. Use of
-// action 2 on object 0 needs role 1. Role 0 assigns and revokes role 1 without condition. Serials from 1 in the
-// order given. Clock 0.
+// action 2 on object 0 needs role 1. Role 0 assigns and revokes role 1 without condition. Serials from 1 in
+// the order given. Clock 0.
 use crate::bytes::lesser;
 use crate::bytes::put_halves;
 use crate::wanted::Wanted;
@@ -28,8 +28,8 @@ struct Planned {
     pub end: u16,
 }
 
-// A small board: what user 1 holds; how many roles there are (with a third one comes its rule); and the duties,
-// the first so many of three.
+// A small board: what user 1 holds; how many roles there are (with a third one comes its rule); and the
+// duties, the first so many of three.
 pub(crate) struct Small {
     pub held: u32,
     pub roles: u8,

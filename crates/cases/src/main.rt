@@ -1,5 +1,5 @@
-// Document 01's small boards, run and compared: 1 to 11 as files that are opened, 12 to 14 call by call. A line
-// for each with what was told, and a last line with the number of differences from document 01.
+// Document 01's small boards, run and compared: 1 to 11 as files that are opened, 12 to 14 call by call. A
+// line for each with what was told, and a last line with the number of differences from document 01.
 mod boards;
 mod by_value;
 mod bytes;
@@ -28,8 +28,9 @@ const MARK: u32 = 4294967295;
 // ---- lines
 
 // Print a number after a space.
-fn number(n: u64) -> bool {
-    io::write_all(1, b" ") & io::print_decimal(1, n)
+fn number(n: u64) {
+    io::write_all(1, b" ");
+    io::print_decimal(1, n);
 }
 
 // Print a serial of a failing order.
@@ -81,15 +82,16 @@ fn told_of(answer: Answer, board: Board) -> Told {
 
 // Print which file the k-th is.
 fn print_name(k: u8) {
-    match k {
-        12 => io::write_all(1, b"case 6b"),
-        13 => io::write_all(1, b"case 9b"),
-        _ => {
-            io::write_all(1, b"case");
-            number(k as u64)
-        }
+    if k == 12 {
+        io::write_all(1, b"case 6b");
+        return;
     }
-    ;
+    if k == 13 {
+        io::write_all(1, b"case 9b");
+        return;
+    }
+    io::write_all(1, b"case");
+    number(k as u64);
 }
 
 // Open the k-th file, and compare the answer.
@@ -147,8 +149,8 @@ fn made(case: Case, k: u8, before: Turn) -> Turn {
 }
 
 // The steps of a case in turn, on the board that it opens.
-fn run(number: u8) -> u32 {
-    let case = case_of(number);
+fn run(which: u8) -> u32 {
+    let case = case_of(which);
     let mut list = [MARK; Board::DUTIES];
     let opening = opened(board_of(case.file), &mut list);
     let board = opening.board;

@@ -1,5 +1,5 @@
-// Document 01's small boards 12 to 14: the calls in turn, each with its answer, what user 1 holds from then on,
-// and how many duties are open.
+// Document 01's small boards 12 to 14: the calls in turn, each with its answer, what user 1 holds from then
+// on, and how many duties are open.
 use crate::wanted::Wanted;
 use crate::wanted::admitted;
 use crate::wanted::plainly;

@@ -1,4 +1,4 @@
--- `replay` is safe and ends: at goes on by a record at each turn and stays within the input; the number is at most at.
+-- `replay` is safe and ends: at goes on by a record at each turn and stays within the input.
 use Prim.Native.Nat.{_≤_, _-_}
 use lib.ListN.{length}
 use borrow.Author.Needs.{needs}

@@ -7,7 +7,9 @@ use Rattle.cases.proofs.bytes.put_halves.Statement.{statement}
 use Rattle.cases.proofs.bytes.put_halves.Tie as tie
 
 abbrev Inv-loop : tie.InvT-loop
-Inv-loop s₀ at halves first count i₀ s i = (i ≤ count) × (count ≤ 20) × (count ≤ length halves) × (first < 65536) × (length s ≡ length s₀)
+Inv-loop s₀ at halves first count i₀ s i =
+    (i ≤ count) × (count ≤ 20) × (count ≤ length halves)
+    × (first < 65536) × (length s ≡ length s₀)
 
 abbrev μ-loop : tie.MeasureT-loop
 μ-loop s₀ at halves first count i₀ s i = count - i
