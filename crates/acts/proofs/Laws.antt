@@ -13,7 +13,7 @@ use borrow.Author.Tests.{eqb-true, eqb-false, ltb-true, lt-ltb}
 use Rattle.orders.specs.Lists.{all}
 use Rattle.orders.specs.Needs.{met, change}
 use Rattle.orders.proofs.Tests.{by-test, and-true, and-both}
-use Rattle.roles.specs.Roles.{inSet, withRole, withoutRole}
+use Rattle.roles.specs.Roles.{width, inSet, withRole, withoutRole}
 use Rattle.roles.proofs.Laws.{with-same, with-other, without-same, without-other, with-below, without-below}
 use Rattle.board.specs.declared.Board.{Board}
 use Rattle.board.specs.declared.Permission.{Permission}
@@ -65,13 +65,13 @@ module _ (permissions : List Permission) (rules : List Rule) (sets : List ℕ) (
   changed-held (Grant target role) e h =
       let r = in-range target role users roles e in
       let t : target < length sets = omega (arith, r .0) in
-      let k : role < 32 = omega (arith, r .1) in
+      let k : role < width = omega (arith, r .1) in
       let old = getD sets target 0 in
       put-held sets target role _ true t (with-same old role k) (with-other old role) (h .0) (h .1)
   changed-held (Revoke target role) e h =
       let r = in-range target role users roles e in
       let t : target < length sets = omega (arith, r .0) in
-      let k : role < 32 = omega (arith, r .1) in
+      let k : role < width = omega (arith, r .1) in
       let old = getD sets target 0 in
       put-held sets target role _ false t (without-same old role k) (without-other old role) (h .0) (h .1)
   changed-held (Use action object) e h = refl

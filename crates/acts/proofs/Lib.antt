@@ -1,4 +1,3 @@
-pub mod Search
 pub mod RoleByRole
 pub mod RuleNeeds
 pub mod Laws

@@ -1,7 +1,6 @@
-// One act: what it asks, whether that is met, what it changes; and when a duty is wholly before another.
+// One act: what it asks, whether that is met, what it changes.
 use board::Asked;
 use board::Board;
-use board::Duty;
 use board::Permission;
 use board::Rule;
 use board::What;
@@ -11,7 +10,7 @@ ghost use lib.ListN.{getD, set};
 ghost use Rattle.orders.specs.Lists.{find};
 ghost use Rattle.board.specs.View.{view};
 ghost use Rattle.board.specs.Permitted.{isFor, governs, byPermission, byRule, askedFor};
-ghost use Rattle.board.specs.Permitted.{heldIn, needs, changed, whollyBefore};
+ghost use Rattle.board.specs.Permitted.{heldIn, needs, changed};
 ghost use Rattle.orders.specs.Needs.{met};
 ghost use Rattle.acts.specs.Meets.{meetsSets};
 
@@ -170,13 +169,4 @@ pub fn make_change(holdings: &mut [u32; Board::USERS], what: What)
             object: _,
         } => {}
     }
-}
-
-// ---- windows
-
-// Whether a duty is wholly before another: its end is less than the other's start.
-pub fn wholly_before(b: Duty, c: Duty) -> bool
-    ensures { λ r. ⌜ r ≡ whollyBefore b c ⌝ }
-{
-    b.end < c.start
 }

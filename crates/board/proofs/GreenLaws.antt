@@ -1,5 +1,5 @@
--- Green and red boards, for every board that keeps the rules of the file: document 01's fact; green exactly if not
--- red; Definition 4 as printed; an allowed order exists; an empty pool is green.
+-- Green and red boards, for every board that keeps the rules of the file: document 01's fact; green exactly
+-- if not red; Definition 4 as printed; an allowed order exists; an empty pool is green.
 use mathlib.Core.Path.{_≡_, refl, sym, ap, _∙_}
 use mathlib.Core.Logic.{_↔_, _⊎_, inl, inr, ⊎-elim}
 use mathlib.Core.Bool.{true}
@@ -44,8 +44,8 @@ empty-green v e order o earlier next later is = elim (rw e at (o .only next (rw 
 -- ---- boards that keep the rules
 
 module _ (v : View) (fit : recordsFit v ≡ true) where
-  -- document 01's fact: a board is red exactly if some duty has no permission or rule, or some holding that it
-  -- needs can be wrong before it
+  -- document 01's fact: a board is red exactly if some duty has no permission or rule, or some holding that
+  -- it needs can be wrong before it
   pub board-fact : Fact (dutiesOf v) (heldIn (v .holdings)) (v .duties)
   board-fact = fact (dutiesOf v) (heldIn (v .holdings)) (v .duties) (duties-pool v fit)
 

@@ -1,8 +1,15 @@
 pub mod Sized
+pub mod InRange
+pub mod Rising
+pub mod FillerLaws
 pub mod GoodLaws
 pub mod ViewLaws
+pub mod SayingLaws
 pub mod RolesIn
+pub mod AtMostOne
+pub mod NeedsLaws
 pub mod Sentences
+pub mod Changed
 pub mod PoolLaws
 pub mod GreenLaws
 pub mod CasesHold

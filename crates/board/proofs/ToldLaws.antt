@@ -1,6 +1,7 @@
--- A plain answer other than 8 leaves the list. And what a promise settles: two answers with one number, each told
--- of the same list, are one and leave the same list, once the failing order is chosen. (With 8 that choice is free
--- among true ones: docs/FAILING-ORDERS.md. With every other number there is nothing to choose.)
+-- A plain answer other than 8 leaves the list. And what a promise settles: two answers with one number, each
+-- told of the same list, are one and leave the same list, once the failing order is chosen. (With 8 that
+-- choice is free among true ones: docs/FAILING-ORDERS.md. With every other number there is nothing to
+-- choose.)
 use mathlib.Core.Path.{_≡_, refl, sym, ap, _∙_}
 use mathlib.Core.List.{List, _++_}
 use Prim.Native.Nat.{ℕ}
@@ -21,8 +22,8 @@ untouched v before number f = record { red = λ e. absurd (f e); otherwise = λ 
 
 -- with 8, both tell of one failing order
 abbrev pub OneOrder :
-    {v : View} {before after after′ : List ℕ} {r r′ : Answer} → Told v before after r → Told v before after′ r′
-    → Type 0
+    {v : View} {before after after′ : List ℕ} {r r′ : Answer} → Told v before after r
+    → Told v before after′ r′ → Type 0
 OneOrder {r = r} {r′ = r′} p q =
     (e : r .number ≡ answer.red) (e′ : r′ .number ≡ answer.red) → p .red e .order ≡ q .red e′ .order
 

@@ -11,8 +11,9 @@ use Rattle.board.specs.Filler.{noPermission, noRule, noDuty, smallestBoa
 use Rattle.board.specs.Limits.{maxUsers, maxPermissions, maxRules, maxDuties}
 use Rattle.board.specs.View.{View, view}
 use Rattle.board.specs.Good.{good}
-use Rattle.board.proofs.GoodLaws.{Beyond, CountsInRange, FillerBeyond}
-use Rattle.board.proofs.GoodLaws.{good→counts, good→filler, filler→beyond}
+use Rattle.board.proofs.InRange.{CountsInRange}
+use Rattle.board.proofs.FillerLaws.{Beyond, FillerBeyond, filler→beyond}
+use Rattle.board.proofs.GoodLaws.{good→counts, good→filler}
 
 -- two lists of one size that begin alike, with filler beyond, have one count and are equal
 same-part :

@@ -42,8 +42,8 @@ abbrev pub Green : View → Type 0
 Green v = orders.Green (worldOf v) (heldIn (v .holdings)) (v .duties)
 
 -- Definition 4 of source document 002 as it is printed, the empty prefix counted too: in every allowed order,
--- whatever comes next after duties that were permitted in turn is permitted. That it and Green agree is proved in
--- proofs/GreenLaws.antt.
+-- whatever comes next after duties that were permitted in turn is permitted. That it and Green agree is
+-- proved in proofs/GreenLaws.antt.
 abbrev pub Definition4 : View → Type 0
 Definition4 v =
     (order : List Duty) → Order (worldOf v) (v .duties) order
@@ -55,7 +55,7 @@ Definition4 v =
 abbrev pub FailingOrder : View → List ℕ → Type 0
 FailingOrder v serials = orders.FailingSerials (worldOf v) (heldIn (v .holdings)) (v .duties) serials
 
--- Red: some failing order shows it. That a board which keeps the rules is green or red, and never both, is proved
--- in proofs/GreenLaws.antt.
+-- Red: some failing order shows it. That a board which keeps the rules is green or red, and never both, is
+-- proved in proofs/GreenLaws.antt.
 abbrev pub Red : View → Type 0
 Red v = (serials : List ℕ) × FailingOrder v serials

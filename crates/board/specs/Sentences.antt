@@ -1,6 +1,6 @@
 -- Document 01's sentences, section Permitted, written out: when a use, a grant and a revoke are permitted,
--- and what each changes. `s` says who holds which role. That `permittedNow` and the world of the board say just
--- this is proved in proofs/Sentences.antt.
+-- and what each changes. `s` says who holds which role. That `permittedNow` and the world of the board say
+-- just this is proved in proofs/Sentences.antt and proofs/Changed.antt.
 use mathlib.Core.Path.{_≡_}
 use mathlib.Core.Logic.{_≢_}
 use mathlib.Core.Bool.{Bool, true, false}

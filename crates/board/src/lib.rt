@@ -40,8 +40,8 @@ pub struct Rule {
     pub barred: u32,
 }
 
-// What something to be done asks of the holdings: no permission or rule is there for it; the doer is to hold a
-// role; or doer and target are to meet a rule.
+// What something to be done asks of the holdings: no permission or rule is there for it; the doer is to hold
+// a role; or doer and target are to meet a rule.
 pub enum Asked {
     Unruled,
     Role(u16),

@@ -62,8 +62,8 @@ module _ (s before : List ℕ) where
 
     -- the file is read, and check answers r on the board that it says
     module _
-        (accepted : Answers (readChecks s) answer.done) (board : Board) (is : board ≡ boardOf s) (after : List ℕ)
-        (r : Answer) (checked : Checked board before after r)
+        (board : Board) (after : List ℕ) (r : Answer) (checked : Checked board before after r)
+        (accepted : Answers (readChecks s) answer.done) (is : board ≡ boardOf s)
       where
         it : Checked (boardOf s) before after r
         it = rw is at checked
@@ -98,7 +98,8 @@ module _ (s before : List ℕ) where
               serial = it .serial;
             }
 
-        pub opened-green : r .number ≡ answer.done → Opens s before after (record { answer = r; board = board })
+        pub opened-green :
+            r .number ≡ answer.done → Opens s before after (record { answer = r; board = board })
         opened-green e =
             record {
               number = number;

@@ -1,5 +1,5 @@
--- What open promises settles its outcome: two outcomes that keep the promise have one number and one board, and
--- they are one answer and leave the same list, once the failing order is chosen.
+-- What open promises settles its outcome: two outcomes that keep the promise have one number and one board,
+-- and they are one answer and leave the same list, once the failing order is chosen.
 use mathlib.Core.Path.{_≡_, sym, _∙_}
 use mathlib.Core.List.{List}
 use Prim.Native.Nat.{ℕ}

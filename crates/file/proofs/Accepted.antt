@@ -19,13 +19,14 @@ use Rattle.board.specs.Limits.{maxUsers, maxPermissions, maxRules, maxDuties}
 use Rattle.board.specs.Permitted.{below}
 use Rattle.board.specs.View.{View, view}
 use Rattle.board.proofs.AnswersLaws.{Refusing, NoneApplies, none-done, none-first, none-second}
-use Rattle.board.proofs.GoodLaws.{CountsInRange, FillerBeyond, counts→range, beyond→filler, parts→good}
-use Rattle.file.specs.Bytes.{four}
-use Rattle.file.specs.Layout.{headerSize, countsOf, clockOf, nextOf, totalOf, laidOut}
+use Rattle.board.proofs.InRange.{CountsInRange, counts→range}
+use Rattle.board.proofs.FillerLaws.{FillerBeyond, beyond→filler}
+use Rattle.board.proofs.GoodLaws.{parts→good}
+use Rattle.file.specs.Layout.{headerSize, countsOf, clockOf, nextOf, statedTotal, totalOf, laidOut}
 use Rattle.file.specs.Records.{holdingAt, permissionAt, ruleAt, ruleSpare, dutyAt, secondFits}
 use Rattle.file.specs.Records.{faultOf, isAbove, firstFault}
 use Rattle.file.specs.Reads.{headerChecks, recordChecks, readChecks, boardOf}
-use Rattle.file.proofs.Faults.{NoFault, no-fault, fault-answers}
+use Rattle.file.proofs.FirstFault.{NoFault, no-fault, fault-answers}
 use Rattle.file.proofs.Filled.{all-fit, part-fits, filled-length, filled-take, filled-drop}
 
 -- ---- the board of any file
@@ -144,7 +145,7 @@ pub record HeaderPasses (s : List ℕ) : Type 0 where
 total-of : (s : List ℕ) → laidOut s ≡ true → totalOf (countsOf s) ≡ length s
 total-of s e = sym (t .0) ∙ t .1
   where
-    t : (four s 36 ≡ totalOf (countsOf s)) × (four s 36 ≡ length s)
+    t : (statedTotal s ≡ totalOf (countsOf s)) × (statedTotal s ≡ length s)
     t = search (and-left, and-right, eqb-true) depth 8
 
 pub header-passes : (s : List ℕ) → NoneApplies (headerChecks s) → HeaderPasses s

@@ -1,5 +1,5 @@
--- Document 01's figures, by computation: the longest file has 6,952 bytes, and case 8 as a file has its parts at 40,
--- 48, 54 and 86 and a total of 146.
+-- Document 01's figures, by computation: the longest file has 6,952 bytes, and case 8 as a file has its parts
+-- at 40, 48, 54 and 86 and a total of 146.
 use mathlib.Core.Path.{_≡_, refl}
 use Rattle.board.specs.declared.Counts.{Counts}
 use Rattle.file.specs.Layout.{holdingsFrom, permissionsFrom, rulesFrom, dutiesFrom, totalOf, longest}

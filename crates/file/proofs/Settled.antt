@@ -19,7 +19,9 @@ module _ (s : List ℕ) (a b : Reading) (p : Reads s a) (q : Reads s b) where
       by-test
       (eqb (a .number) answer.done)
       (λ t. let e = eqb-true (a .number) answer.done t in p .accepted e ∙ sym (q .accepted (sym number ∙ e)))
-      (λ f. let n = eqb-false (a .number) answer.done f in p .refused n ∙ sym (q .refused (λ e. n (number ∙ e))))
+      (λ t.
+      let n = eqb-false (a .number) answer.done t in
+      p .refused n ∙ sym (q .refused (λ e. n (number ∙ e))))
 
   pub same-reading : a ≡ b
   same-reading = λ i. record { number = number i; board = board i }

@@ -20,6 +20,10 @@ clockOf s = four s 12
 abbrev pub nextOf : List ℕ → ℕ
 nextOf s = four s 16
 
+-- the total length that the header states
+abbrev pub statedTotal : List ℕ → ℕ
+statedTotal s = four s 36
+
 -- how many bytes the header and each kind of record take
 abbrev pub headerSize : ℕ
 headerSize = 40
@@ -71,4 +75,4 @@ laidOut s =
     && (eqb (four s 24) (permissionsFrom (countsOf s))
     && (eqb (four s 28) (rulesFrom (countsOf s))
     && (eqb (four s 32) (dutiesFrom (countsOf s))
-    && (eqb (four s 36) (totalOf (countsOf s)) && eqb (four s 36) (length s)))))
+    && (eqb (statedTotal s) (totalOf (countsOf s)) && eqb (statedTotal s) (length s)))))

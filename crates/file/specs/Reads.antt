@@ -12,9 +12,9 @@ use Rattle.board.specs.Limits.{maxUsers, maxPermissions, maxRules, maxDuties}
 use Rattle.board.specs.Numbers as answer
 use Rattle.board.specs.Permitted.{below}
 use Rattle.file.specs.declared.Reading.{Reading}
-use Rattle.file.specs.Bytes.{two, four}
-use Rattle.file.specs.Layout.{headerSize, countsOf, clockOf, nextOf, longest, laidOut}
-use Rattle.file.specs.Records.{holdingAt, permissionAt, ruleAt, dutyAt, firstFault}
+use Rattle.file.specs.Bytes.{two}
+use Rattle.file.specs.Layout.{headerSize, countsOf, clockOf, nextOf, statedTotal, longest, laidOut}
+use Rattle.file.specs.Records.{holdingAt, permissionAt, ruleAt, dutyAt, faultNumbers, firstFault}
 
 -- the checks of the header
 abbrev pub headerChecks : List ℕ → List Check
@@ -23,13 +23,15 @@ headerChecks s =
     ∷ (check answer.version (two s 0 ≡ 1 → ⊥)
     ∷ (check answer.count (countsFit (countsOf s) (nextOf s) ≡ false)
     ∷ (check answer.layout (laidOut s ≡ false)
-    ∷ (check answer.long (longest < four s 36) ∷ []))))
+    ∷ (check answer.long (longest < statedTotal s) ∷ []))))
+
+-- the checks of a fault: whether it is this one, for each number of a fault
+abbrev pub faultChecks : ℕ → List Check
+faultChecks fault = map (λ number. check number (fault ≡ number)) faultNumbers
 
 -- the checks of the records: the first faulty one in file order decides
 abbrev pub recordChecks : List ℕ → List Check
-recordChecks s =
-    check answer.field (firstFault s ≡ answer.field)
-    ∷ (check answer.window (firstFault s ≡ answer.window) ∷ (check answer.notAbove (firstFault s ≡ answer.notAbove) ∷ []))
+recordChecks s = faultChecks (firstFault s)
 
 abbrev pub readChecks : List ℕ → List Check
 readChecks s = headerChecks s ++ recordChecks s

@@ -74,7 +74,12 @@ secondFits s i =
 -- ---- the fault of one record
 
 abbrev pub faultOf : Bool → Bool → Bool → ℕ
-faultOf fits window above = cond fits (cond window (cond above answer.done answer.notAbove) answer.window) answer.field
+faultOf fits window above =
+    cond fits (cond window (cond above answer.done answer.notAbove) answer.window) answer.field
+
+-- the numbers of faults, in the order in which a record is tried
+abbrev pub faultNumbers : List ℕ
+faultNumbers = answer.field ∷ answer.window ∷ answer.notAbove ∷ []
 
 -- the first record of a part has none before it
 abbrev pub isAbove : {A : Type 0} → (A → A → Bool) → (ℕ → A) → ℕ → Bool

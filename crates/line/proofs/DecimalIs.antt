@@ -10,7 +10,7 @@ use native.Mathlib.Decide.{decLt}
 use native.Mathlib.Omega.{arith}
 use lib.ListN.{getD}
 use borrow.Author.Tests.{lt-ltb, le-ltb}
-use Rattle.line.specs.Line.{digits, decimal}
+use Rattle.line.specs.Line.{digits, maxDigits, decimal}
 
 -- digits read from the first to the last, after a number that was read before them
 abbrev pub read : ℕ → List ℕ → ℕ
@@ -69,4 +69,4 @@ digits-are (suc k) n h = longer k n (digits-are k (n / 10) (omega (arith, pow-su
 
 pub decimal-is : (n : ℕ) → n < 2 ^ 64 → Decimal n (decimal n)
 unfolding decimal
-decimal-is n h = digits-are 20 n (omega arith)
+decimal-is n h = digits-are maxDigits n (omega arith)

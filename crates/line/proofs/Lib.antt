@@ -1,4 +1,6 @@
 pub mod PutLaws
+pub mod Settled
+pub mod Words
 pub mod NumberLaws
 pub mod DecimalIs
 pub mod Examples

@@ -12,7 +12,7 @@ use lib.Dec.{ltb}
 use lib.ListN.{length, take, drop, getD, set, length-append, length-take, drop-of-length-le}
 use lib.Seq.{take-suc, take-all, take-length}
 use borrow.Author.Tests.{lt-ltb, le-ltb}
-use Rattle.line.specs.Line.{digits, decimal, numbers}
+use Rattle.line.specs.Line.{digits, maxDigits, decimal, maxNumber, numbers}
 
 -- ---- lengths
 
@@ -27,16 +27,16 @@ digits-length (suc k) n =
     (omega arith)
     (omega (arith, length-append (digits k (n / 10)) ((48 + n % 10) ∷ []), digits-length k (n / 10)))
 
-pub decimal-length : (n : ℕ) → length (decimal n) ≤ 20
+pub decimal-length : (n : ℕ) → length (decimal n) ≤ maxDigits
 unfolding decimal
-decimal-length n = digits-length 20 n
+decimal-length n = digits-length maxDigits n
 
-pub numbers-length : (l : List ℕ) → length (numbers l) ≤ 21 * length l
+pub numbers-length : (l : List ℕ) → length (numbers l) ≤ maxNumber * length l
 numbers-length [] = omega arith
 numbers-length (n ∷ l) =
     omega (arith, length-append (decimal n) (numbers l), decimal-length n, numbers-length l)
 
-pub first-numbers-length : (n : ℕ) (l : List ℕ) → length (numbers (take n l)) ≤ 21 * n
+pub first-numbers-length : (n : ℕ) (l : List ℕ) → length (numbers (take n l)) ≤ maxNumber * n
 first-numbers-length n l = omega (arith, numbers-length (take n l), length-take n l)
 
 -- ---- one more number behind
@@ -68,9 +68,10 @@ set-first [] at d h = absurd (omega arith)
 set-first (x ∷ text) zero d h = refl
 set-first (x ∷ text) (suc at) d h = set-first text at d (omega arith)
 
-pub none-yet : (n : ℕ) (text : List ℕ) → length text ≡ 20 → digits 20 n ++ drop 20 text ≡ decimal n
+pub none-yet : (n : ℕ) (text : List ℕ) → length text ≡ maxDigits
+    → digits maxDigits n ++ drop maxDigits text ≡ decimal n
 unfolding decimal
-none-yet n text h = let e : length text ≤ 20 = omega arith in rw (drop-of-length-le text e, append-nil)
+none-yet n text h = let e : length text ≤ maxDigits = omega arith in rw (drop-of-length-le text e, append-nil)
 
 -- the last digit of what is left is written before the place: it was the only one, or the others are left
 module _ (text : List ℕ) (rest : ℕ) where

@@ -14,16 +14,24 @@ abbrev pub digits : ℕ → ℕ → List ℕ
 digits zero n = []
 digits (suc k) n = cond (ltb n 10) ((48 + n) ∷ []) (digits k (n / 10) ++ ((48 + n % 10) ∷ []))
 
--- those of a number of 64 bits, which has at most 20
+-- a number of 64 bits has at most this many digits
+abbrev pub maxDigits : ℕ
+maxDigits = 20
+
+-- the decimal digits of a number of 64 bits
 unfoldable pub decimal : ℕ → List ℕ
-decimal n = digits 20 n
+decimal n = digits maxDigits n
+
+-- a number with a space before it takes at most this many bytes
+abbrev pub maxNumber : ℕ
+maxNumber = 1 + maxDigits
 
 -- each number with a space before it
 abbrev pub numbers : List ℕ → List ℕ
 numbers [] = []
 numbers (n ∷ l) = 32 ∷ (decimal n ++ numbers l)
 
--- the words, in ASCII, and the newline
+-- the words, in ASCII
 abbrev pub yes : List ℕ
 yes = 121 ∷ 101 ∷ 115 ∷ []
 
@@ -32,6 +40,10 @@ no = 110 ∷ 111 ∷ []
 
 abbrev pub refused : List ℕ
 refused = 114 ∷ 101 ∷ 102 ∷ 117 ∷ 115 ∷ 101 ∷ 100 ∷ []
+
+-- the most bytes of a word
+abbrev pub maxWord : ℕ
+maxWord = 7
 
 abbrev pub newline : List ℕ
 newline = 10 ∷ []

@@ -6,7 +6,8 @@ ghost use mathlib.Core.List.{[], _∷_, _++_};
 ghost use Prim.Native.Nat.{_+_, _-_, _*_, _%_, _≤_, min};
 ghost use lib.ListN.{length, take, drop};
 ghost use Rattle.board.specs.Limits.{maxDuties};
-ghost use Rattle.line.specs.Line.{decimal, numbers, newline, lineOf, Put};
+ghost use Rattle.line.specs.Line.{maxDigits, decimal, maxNumber, numbers, maxWord, newline, lineOf};
+ghost use Rattle.line.specs.Line.{Put};
 
 // The most bytes of a word.
 const WORD: usize = 7;
@@ -26,8 +27,8 @@ fn digit(n: u64) -> u8
 
 // Put the decimal digits of a number at the end of a text, and answer the place of the first.
 fn spell(n: u64, text: &mut [u8]) -> usize
-    requires { ⌜ length (now text) ≡ 20 ⌝ }
-    ensures { λ r. ⌜ (r ≤ 20) × (take (20 - r) (drop r (now (text .exit))) ≡ decimal n) ⌝ }
+    requires { ⌜ length (now text) ≡ maxDigits ⌝ }
+    ensures { λ r. ⌜ (r ≤ maxDigits) × (take (maxDigits - r) (drop r (now (text .exit))) ≡ decimal n) ⌝ }
 {
     let mut at: usize = DIGITS;
     let mut rest = n;
@@ -58,7 +59,7 @@ fn put(out: &mut [u8], at: usize, bytes: &[u8]) -> usize
 
 // Put a space and a number.
 fn put_number(out: &mut [u8], at: usize, n: u64) -> usize
-    requires { ⌜ at + 21 ≤ length (now out) ⌝ }
+    requires { ⌜ at + maxNumber ≤ length (now out) ⌝ }
     ensures { λ r. ⌜ Put (numbers (n ∷ [])) (now (out .entry)) at (now (out .exit)) r ⌝ }
 {
     let mut text = [0u8; DIGITS];
@@ -69,7 +70,7 @@ fn put_number(out: &mut [u8], at: usize, n: u64) -> usize
 
 // Put the first n numbers of a list, each with a space before it.
 fn put_numbers(out: &mut [u8], at: usize, list: &[u32], n: usize) -> usize
-    requires { ⌜ (n ≤ length (now list)) × (at + 21 * n ≤ length (now out)) ⌝ }
+    requires { ⌜ (n ≤ length (now list)) × (at + maxNumber * n ≤ length (now out)) ⌝ }
     ensures { λ r. ⌜ Put (numbers (take n (now (list .entry)))) (now (out .entry)) at (now (out .exit)) r ⌝ }
 {
     let mut here = at;
@@ -83,7 +84,7 @@ fn put_numbers(out: &mut [u8], at: usize, list: &[u32], n: usize) -> usize
 
 // Put a whole line at the start: a word, a number, the first n numbers of a list, and a newline.
 fn put_line(out: &mut [u8; ROOM], word: &[u8], number: u64, list: &[u32], n: usize) -> usize
-    requires { ⌜ (length (now word) ≤ 7) × (n ≤ maxDuties) × (n ≤ length (now list)) ⌝ }
+    requires { ⌜ (length (now word) ≤ maxWord) × (n ≤ maxDuties) × (n ≤ length (now list)) ⌝ }
     ensures { λ r. ⌜ Put (now (word .entry) ++ (numbers (number ∷ take n (now (list .entry))) ++ newline))
         (now (out .entry)) 0 (now (out .exit)) r ⌝ }
 {

@@ -12,7 +12,7 @@ use Rattle.orders.specs.Orders.{Order, MayFollow, Pool, run}
 use Rattle.orders.specs.Beginnings.{Beginning, GetsStuck, EndsStuck}
 use Rattle.orders.specs.Needs.{Duties, Holdings, world, change, met, ruled, needed, sets}
 use Rattle.orders.specs.Criterion.{StaysWrong, MadeWrong, CanBeWrong, Red}
-use Rattle.orders.specs.Lines.{early, between}
+use Rattle.orders.specs.Trails.{early, between}
 use Rattle.orders.proofs.Tests.{clash, clash-not, is-false, or-same, and-true}
 use Rattle.orders.proofs.Lists.{
   keep-mem,
@@ -23,7 +23,8 @@ use Rattle.orders.proofs.Lists.{
   at-mid,
 }
 use Rattle.orders.proofs.Build.{run-append, sort, sort-order}
-use Rattle.orders.proofs.Lines.{beforeLast, line-last, until-x, line-beginning}
+use Rattle.orders.proofs.Early.{until-x}
+use Rattle.orders.proofs.Trails.{beforeLast, trail-last, trail-beginning}
 use Rattle.orders.proofs.Failing.{ends→gets}
 use Rattle.orders.proofs.Needs.{
   met-ruled,
@@ -159,8 +160,8 @@ module _ (D : Duties) (s : Holdings D) (pool : List (D .Duty)) (P : Pool (world 
           begins : Beginning (world D) pool (beforeLast (world D) o (w .x) d ++ (d ∷ []))
           begins =
               rw
-              (line-last (world D) o (w .x) d) at
-              (line-beginning (world D) pool P o ord (w .x) d (w .open-x) open-d (w .other) (w .late))
+              (trail-last (world D) o (w .x) d) at
+              (trail-beginning (world D) pool P o ord (w .x) d (w .open-x) open-d (w .other) (w .late))
 
           earlies : List Duty
           earlies = keep (early (world D) (w .x) d) o

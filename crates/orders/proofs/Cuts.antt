@@ -2,7 +2,6 @@
 -- is cut from it and what follows is judged from the holdings that it leaves; where it gets stuck, what
 -- follows does not matter.
 use mathlib.Core.Path.{_≡_, refl, ap, _∙_}
-use mathlib.Core.Logic.{_↔_}
 use mathlib.Core.Bool.{true, false, _&&_, cond}
 use mathlib.Core.List.{List, [], _∷_, _++_, append-nil}
 use Prim.Native.Nat.{_≤_}
@@ -10,27 +9,18 @@ use native.Mathlib.Omega.{arith}
 use lib.ListN.{length}
 use Rattle.orders.specs.Orders.{World, Permitted, run}
 use Rattle.orders.specs.Beginnings.{FirstStuck}
-use Rattle.orders.specs.Lines.{goesThrough, cutOff}
+use Rattle.orders.specs.Trails.{goesThrough, cutOff}
 use Rattle.orders.proofs.Tests.{by-test, clash, and-true, and-both}
 
 module _ (W : World) where
   open World W using (Duty, State, permitted, after)
 
-  -- ---- to go through is to have each duty permitted in its turn
-
-  goes→permitted : (s : State) (l : List Duty) → goesThrough W s l ≡ true → Permitted W s l
-  goes→permitted s [] e = tt
-  goes→permitted s (x ∷ l) e =
-      let r = and-true (permitted s x) (goesThrough W (after s x) l) e in
-      (r .0, goes→permitted (after s x) l (r .1))
+  -- ---- where each duty is permitted in its turn, the list goes through
 
   permitted→goes : (s : State) (l : List Duty) → Permitted W s l → goesThrough W s l ≡ true
   permitted→goes s [] h = refl
   permitted→goes s (x ∷ l) h =
       and-both (permitted s x) (goesThrough W (after s x) l) (h .0) (permitted→goes (after s x) l (h .1))
-
-  pub goes↔permitted : (s : State) (l : List Duty) → (goesThrough W s l ≡ true) ↔ Permitted W s l
-  goes↔permitted s l = (goes→permitted s l, permitted→goes s l)
 
   pub goes-append :
       (s : State) (a b : List Duty)

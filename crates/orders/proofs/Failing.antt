@@ -8,7 +8,7 @@ use mathlib.Core.Bool.{true, false}
 use mathlib.Core.List.{List, [], _∷_, _++_, append-assoc}
 use Rattle.orders.specs.Orders.{World, Order, Pool, Green, Permitted, Failing, run}
 use Rattle.orders.specs.Beginnings.{Beginning, FirstStuck, FailsLast, GetsStuck, EndsStuck}
-use Rattle.orders.specs.Lines.{goesThrough, cutOff}
+use Rattle.orders.specs.Trails.{goesThrough, cutOff}
 use Rattle.orders.proofs.Tests.{clash}
 use Rattle.orders.proofs.Build.{rest, begin}
 use Rattle.orders.proofs.Cuts.{stuck-at, first-stuck, cut-first}
@@ -96,10 +96,10 @@ module _ (W : World) where
     first-failing list b f = cut-failing (f .earlier) (f .d) (f .later) (rw (f .is) at b) (f .done) (f .stuck)
 
     -- a beginning in which some duty is not permitted in its turn, cut
-    pub cut-failing-line :
+    pub beginning→failing :
         (list : List Duty) → Beginning W pool list → goesThrough W s list ≡ false
         → Failing W s pool (cutOff W s list)
-    cut-failing-line list b e =
+    beginning→failing list b e =
         let f = first-stuck W s list e in rw (cut-first W s list f) (first-failing list b f)
 
     -- so also where it is the last duty
@@ -107,7 +107,7 @@ module _ (W : World) where
         (earlier : List Duty) (d : Duty) → EndsStuck W s pool earlier d
         → Failing W s pool (cutOff W s (earlier ++ (d ∷ [])))
     ends→failing earlier d e =
-        cut-failing-line (earlier ++ (d ∷ [])) (e .begins) (stuck-at W s earlier d [] (e .stuck))
+        beginning→failing (earlier ++ (d ∷ [])) (e .begins) (stuck-at W s earlier d [] (e .stuck))
 
     -- a beginning whose duties are all permitted in turn but the last
     pub failing-by : (list : List Duty) → Beginning W pool list → FailsLast W s list → Failing W s pool list

@@ -1,8 +1,11 @@
 pub mod Tests
 pub mod Lists
 pub mod Loops
+pub mod Search
 pub mod Build
-pub mod Lines
+pub mod Beginnings
+pub mod Early
+pub mod Trails
 pub mod Steps
 pub mod Cuts
 pub mod Failing
@@ -13,5 +16,5 @@ pub mod Decide
 pub mod Fact
 pub mod Walks
 pub mod Lengths
-pub mod LineFails
+pub mod TrailFails
 pub mod Clock

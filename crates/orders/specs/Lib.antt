@@ -4,5 +4,5 @@ pub mod Walks
 pub mod Beginnings
 pub mod Needs
 pub mod Criterion
-pub mod Lines
+pub mod Trails
 pub mod Clock

@@ -1,3 +1,5 @@
+pub mod Turns
 pub mod Laws
 pub mod PutIn
 pub mod PutAll
+pub mod ClosedUp

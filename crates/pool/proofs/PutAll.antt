@@ -1,8 +1,8 @@
 -- The outer loop of `by_start`: one turn puts one duty more in order of start, and it stops at the count or,
 -- where the count is above the room, at the last place.
 use mathlib.Core.Path.{_≡_, refl}
-use mathlib.Core.Logic.{_⊎_, inl, inr, ⊎-elim}
-use mathlib.Core.Bool.{true, false, _&&_}
+use mathlib.Core.Logic.{⊎-elim}
+use mathlib.Core.Bool.{false, _&&_}
 use mathlib.Core.List.{List, [], _∷_, _++_}
 use Prim.Native.Nat.{ℕ, _+_, _≤_, _<_}
 use native.Mathlib.Numerals.{add-one}
@@ -10,25 +10,11 @@ use native.Mathlib.Omega.{arith}
 use lib.Dec.{ltb}
 use lib.ListN.{length, take, drop, getD, drop-of-length-le}
 use lib.Seq.{length-front, take-all, take-suc, drop-at}
-use borrow.Author.Tests.{ltb-true, ltb-false}
-use Rattle.orders.proofs.Tests.{by-test, and-true}
 use Rattle.board.specs.declared.Duty.{Duty}
 use Rattle.pool.specs.ByStart.{putIn, putAll, byStart}
 use Rattle.pool.proofs.Laws.{by-start-length, by-start-fills, by-start-first}
 use Rattle.pool.proofs.PutIn.{same-at, same-beyond}
-
--- ---- the loop's test
-
-pub goes-on : (m n room : ℕ) → ltb m n && ltb m room ≡ true → (m < n) × (m < room)
-goes-on m n room t =
-    let r = and-true (ltb m n) (ltb m room) t in
-    (ltb-true m n (r .0), ltb-true m room (r .1))
-
-stops : (m n room : ℕ) → ltb m n && ltb m room ≡ false → (n ≤ m) ⊎ (room ≤ m)
-stops m n room e =
-    by-test (ltb m n) (λ t. inr (ltb-false m room (rw t at e))) (λ f. inl (ltb-false m n f))
-
--- ---- a turn, and the end
+use Rattle.pool.proofs.Turns.{stops}
 
 -- the duty that stands last is put in last
 put-all-one-more : (done l : List Duty) (d : Duty) → putAll done (l ++ (d ∷ [])) ≡ putIn d (putAll done l)

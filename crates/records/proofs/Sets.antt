@@ -25,6 +25,6 @@ shifted-out set roles = elim (decLt set (2 ^ roles)) [ yes h ↦ inside h | no h
             let both = div-lt-iff-lt-mul {x = set} {y = 1} (one-le-pow roles 2 (omega arith)) in
             h (omega (arith, both .0 (omega arith)))
 
--- a set of 32 bits is below every higher power
+-- a set is below two to each power from its width on
 pub all-below : (set roles : ℕ) → set < 2 ^ width → width ≤ roles → ltb set (2 ^ roles) ≡ true
 all-below set roles f h = lt-ltb set (2 ^ roles) (omega (arith, pow-mono h))

@@ -67,7 +67,7 @@ shifted r h = shl-exact {a = 1} 1 r width (omega arith) (omega arith)
 
 -- ---- what a set holds
 
--- no set of 32 bits has a role from 32 on
+-- no set has a role from its width on
 pub beyond : (set role : ℕ) → set < 2 ^ width → width ≤ role → inSet set role ≡ false
 beyond set role f k =
     let z : set / 2 ^ role ≡ 0 = div-eq-of-lt (omega (arith, pow-mono k)) in
@@ -100,7 +100,8 @@ with-same set role h = rw (lt-ltb role width h, with-bit-same set role)
 
 pub with-other : (set role q : ℕ) → (q ≡ role → ⊥) → inSet (withRole set role) q ≡ inSet set q
 unfolding withRole
-with-other set role q n = either (ltb role width) (bitOr set (1 * 2 ^ role)) set q (with-bit-other set role q n)
+with-other set role q n =
+    either (ltb role width) (bitOr set (1 * 2 ^ role)) set q (with-bit-other set role q n)
 
 pub without-same : (set role : ℕ) → role < width → inSet (withoutRole set role) role ≡ false
 unfolding withoutRole

@@ -8,7 +8,7 @@ use Prim.Native.Nat.{ℕ, _+_, _≤_}
 use native.Mathlib.Omega.{arith}
 use lib.ListN.{length, drop, length-append}
 use lib.Seq.{append-snoc, set-at}
-use Rattle.orders.specs.Lines.{early, between, line, cutOff}
+use Rattle.orders.specs.Trails.{early, between, trail, cutOff}
 use Rattle.orders.specs.Lists.{here, there, keep}
 use Rattle.orders.specs.Orders.{World}
 use Rattle.orders.proofs.Lists.{at-mid, keep-mem}
@@ -22,7 +22,7 @@ use Rattle.board.specs.Permitted.{heldIn, changed}
 use Rattle.board.specs.View.{view}
 use Rattle.verdict.specs.declared.Walk.{Walk}
 use Rattle.verdict.specs.Walking.{serials, permittedWith, doOne, doAll, Room}
-use Rattle.verdict.specs.Walking.{InRange, lineCut, Written}
+use Rattle.verdict.specs.Walking.{InRange, trailCut, Written}
 use Rattle.verdict.proofs.Walks.{OnItsWay, has-room, arrived}
 
 -- these are written from the start of rest on, first being written before
@@ -130,25 +130,25 @@ module _ (b : Board) where
       (one w first rest y z false e p f, f, stays (w .holdings) (w .length + 1) (after ++ rest) l)
       (more w first rest y z [] _ (record { counted = omega arith; list = refl })))
 
--- ---- the line of x and d
+-- ---- the trail of x and d
 
 module _ (b : Board) (pool : List Duty) (x d : Duty) (list : List ℕ) where
   abbrev begin : Walk × List ℕ
   begin = (record { holdings = b .holdings; length = 0; stuck = false }, list)
 
   abbrev whole : List Duty
-  whole = line (W b) pool x d
+  whole = trail (W b) pool x d
 
-  -- this much of the line is left
+  -- this much of the trail is left
   abbrev pub Left : Walk × List ℕ → List Duty → Type 0
   Left now l = OnItsWay b begin whole now l
 
   module _
       (sized : length (b .holdings) ≡ maxUsers) (range : InRange (x ∷ (d ∷ pool)))
-      (room : length (lineCut b pool x d) ≤ length list)
+      (room : length (trailCut b pool x d) ≤ length list)
     where
-      line-range : InRange whole
-      line-range y =
+      trail-range : InRange whole
+      trail-range y =
           at-mid
           (keep (early (W b) x d) pool)
           (λ m. range y (there (there (keep-mem _ pool m .0))))
@@ -159,16 +159,16 @@ module _ (b : Board) (pool : List Duty) (x d : Duty) (list : List ℕ) where
           (λ q. rw q (range d (there (here refl))))
           (λ m. elim m [ ]))
 
-      line-wrote : Wrote [] list (lineCut b pool x d) (doAll b begin whole)
-      unfolding lineCut
-      line-wrote = writes b (begin .0) [] list whole refl sized line-range refl room
+      trail-wrote : Wrote [] list (trailCut b pool x d) (doAll b begin whole)
+      unfolding trailCut
+      trail-wrote = writes b (begin .0) [] list whole refl sized trail-range refl room
 
-      pub line-room : (now : Walk × List ℕ) (l : List Duty) → Left now l → Room b now l
-      line-room now l = has-room b begin whole now l (omega (arith, line-wrote .counted))
+      pub trail-room : (now : Walk × List ℕ) (l : List Duty) → Left now l → Room b now l
+      trail-room now l = has-room b begin whole now l (omega (arith, trail-wrote .counted))
 
-      pub line-written :
-          (now : Walk × List ℕ) → Left now [] → Written (lineCut b pool x d) list (now .1) (now .0 .length)
-      line-written now o =
+      pub trail-written :
+          (now : Walk × List ℕ) → Left now [] → Written (trailCut b pool x d) list (now .1) (now .0 .length)
+      trail-written now o =
           rw
           (arrived b begin whole now o)
-          (record { list = line-wrote .list; counted = omega (arith, line-wrote .counted) })
+          (record { list = trail-wrote .list; counted = omega (arith, trail-wrote .counted) })

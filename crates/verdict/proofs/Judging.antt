@@ -1,6 +1,6 @@
 -- From what was found to the verdict. On a good board the duties in order of start are an order of the open
 -- duties. So where nothing is found, the criterion does not say red and the board is green; and where a duty
--- gets stuck, the line of the two duties, cut after the first that is not permitted, is a failing order.
+-- gets stuck, the trail of the two duties, cut after the first that is not permitted, is a failing order.
 use mathlib.Core.Path.{_≡_, refl, sym, ap, _∙_}
 use mathlib.Core.Logic.{⊎-elim}
 use mathlib.Core.Bool.{Bool, true, false, not, _&&_}
@@ -12,13 +12,13 @@ use lib.ListN.{length, take, drop, getD, length-map, length-take}
 use lib.Seq.{length-take-le, take-at, take-length, getD-take}
 use borrow.Author.Tests.{ltb-true, lt-ltb}
 use Rattle.orders.specs.Criterion.{isRed, staysWrong}
-use Rattle.orders.specs.Lines.{StuckBy, unruled, stays, made}
+use Rattle.orders.specs.Trails.{StuckBy, unruled, stays, made}
 use Rattle.orders.specs.Lists.{Mem, any}
 use Rattle.orders.specs.Needs.{Duties, ruled, needed}
 use Rattle.orders.specs.Orders.{World, Order, Pool, Failing}
 use Rattle.orders.proofs.Fact.{fact}
 use Rattle.orders.proofs.Lengths.{failing-length}
-use Rattle.orders.proofs.LineFails.{line-fails}
+use Rattle.orders.proofs.TrailFails.{trail-fails}
 use Rattle.orders.proofs.Lists.{any-true, at-cons, pairwise-map}
 use Rattle.orders.proofs.Loops.{take-mem}
 use Rattle.orders.proofs.Steps.{part-pool, green-same}
@@ -41,7 +41,7 @@ use Rattle.pool.specs.ByStart.{byStart}
 use Rattle.pool.proofs.Laws.{by-start-length, by-start-order}
 use Rattle.verdict.specs.Judging.{Stuck}
 use Rattle.verdict.specs.Tests.{canBeMet, harms}
-use Rattle.verdict.specs.Walking.{serials, lineCut, InRange, Written}
+use Rattle.verdict.specs.Walking.{serials, trailCut, InRange, Written}
 use Rattle.verdict.proofs.Alone.{aloneAt, can-be-met-alone}
 use Rattle.verdict.proofs.Spoiled.{harms-spoils}
 use Rattle.verdict.proofs.Troubles.{askedOf, good-asks}
@@ -79,11 +79,11 @@ written-told v order before after n f w =
 
 -- ---- the open duties o in order of start
 
--- what `write_order` asks of the line of x and d, and what its answer is worth
+-- what `write_order` asks of the trail of x and d, and what its answer is worth
 pub record Fails (b : Board) (o : List Duty) (x d : Duty) : Type 0 where
   pub range : InRange (x ∷ (d ∷ o))
-  pub short : length (lineCut b o x d) ≤ maxDuties
-  pub failing : FailingOrder (view b) (serials (lineCut b o x d))
+  pub short : length (trailCut b o x d) ≤ maxDuties
+  pub failing : FailingOrder (view b) (serials (trailCut b o x d))
 
 module _ (b : Board) (is-good : good b ≡ true) (o : List Duty) (is : o ≡ byStart (view b .duties)) where
   abbrev v : View
@@ -192,9 +192,9 @@ module _ (b : Board) (is-good : good b ≡ true) (o : List Duty) (is : o ≡ byS
     open-d : Mem d pool
     open-d = ordered .only d (at-place j (stuck .open-d))
 
-    cut-fails : Failing W s pool (lineCut b o x d)
-    unfolding lineCut
-    cut-fails = line-fails D s pool pool-right o ordered d open-d x stuck-by
+    cut-fails : Failing W s pool (trailCut b o x d)
+    unfolding trailCut
+    cut-fails = trail-fails D s pool pool-right o ordered d open-d x stuck-by
 
     pub stuck-fails : Fails b o x d
     stuck-fails =
@@ -204,9 +204,9 @@ module _ (b : Board) (is-good : good b ≡ true) (o : List Duty) (is : o ≡ byS
               (λ q. rw q (what-fits x (at-place i (stuck .open-x))))
               (at-cons (λ q. rw q (what-fits d (at-place j (stuck .open-d)))) (what-fits y));
           short =
-              let h = failing-length W pool pool-right s (lineCut b o x d) cut-fails in
+              let h = failing-length W pool pool-right s (trailCut b o x d) cut-fails in
               omega (arith, length-take (b .counts .duties) (b .duties), good→counts b is-good .duties);
-          failing = record { list = lineCut b o x d; named = refl; failing = rw same-state at cut-fails };
+          failing = record { list = trailCut b o x d; named = refl; failing = rw same-state at cut-fails };
         }
 
 -- ---- in the array that `by_start` answers

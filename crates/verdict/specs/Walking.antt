@@ -1,12 +1,12 @@
 -- Doing duties in turn until one is not permitted, and writing their serials. That what is written is the
--- line cut after that duty is proved in proofs/Cutting.antt.
+-- trail cut after that duty is proved in proofs/Cutting.antt.
 use mathlib.Core.Path.{_≡_}
 use mathlib.Core.Bool.{Bool, true, not, _&&_, _||_, cond}
 use mathlib.Core.List.{List, [], _∷_, _++_, map}
 use Prim.Native.Nat.{ℕ, _+_, _≤_}
 use lib.Dec.{eqb}
 use lib.ListN.{length, drop, set}
-use Rattle.orders.specs.Lines.{line, cutOff}
+use Rattle.orders.specs.Trails.{trail, cutOff}
 use Rattle.orders.specs.Lists.{Mem}
 use Rattle.orders.specs.Needs.{met}
 use Rattle.board.specs.declared.Board.{Board}
@@ -21,9 +21,9 @@ use Rattle.verdict.specs.declared.Walk.{Walk}
 abbrev pub serials : List Duty → List ℕ
 serials l = map (λ (d : Duty). d .serial .0) l
 
--- y stands early in the line of x and d (orders: early), or between the two (orders: between)
-abbrev pub inLine : Bool → Duty → Duty → Duty → Bool
-inLine late x d y =
+-- y stands early in the trail of x and d (orders: early), or between the two (orders: between)
+abbrev pub inTrail : Bool → Duty → Duty → Duty → Bool
+inTrail late x d y =
     cond late (whollyBefore x y && whollyBefore y d)
     ((whollyBefore y d || whollyBefore y x) && not (whollyBefore x y || eqb (y .serial .0) (x .serial .0)))
 
@@ -58,15 +58,15 @@ doAll b w (y ∷ l) = doAll b (doOne b w y) l
 abbrev pub Room : Board → Walk × List ℕ → List Duty → Type 0
 Room b w l = doAll b w l .0 .length ≤ length (w .1)
 
--- ---- the line
+-- ---- the trail
 
 -- what each of these duties is to do names a user and a role that a board can have
 abbrev pub InRange : List Duty → Type 0
 InRange l = (y : Duty) → Mem y l → whatFits maxUsers maxRoles (y .what) ≡ true
 
--- the line of x and d, cut after the first duty that is not permitted
-unfoldable pub lineCut : Board → List Duty → Duty → Duty → List Duty
-lineCut b pool x d = cutOff (worldOf (view b)) (heldIn (b .holdings)) (line (worldOf (view b)) pool x d)
+-- the trail of x and d, cut after the first duty that is not permitted
+unfoldable pub trailCut : Board → List Duty → Duty → Duty → List Duty
+trailCut b pool x d = cutOff (worldOf (view b)) (heldIn (b .holdings)) (trail (worldOf (view b)) pool x d)
 
 -- their serials stand at the start of the list, the rest is untouched, and their number is n
 pub record Written (order : List Duty) (before after : List ℕ) (n : ℕ) : Type 0 where

@@ -22,7 +22,7 @@ ghost use Rattle.verdict.specs.Judging.{Troubled, Judged};
 ghost use Rattle.verdict.specs.Tests.{granted, revoked, most, least, canBeMet};
 ghost use Rattle.verdict.specs.Tests.{needsHeld, needsFree, needsOpposite};
 ghost use Rattle.verdict.specs.Tests.{undoes, opposes, heals, harms, firstPlace};
-ghost use Rattle.verdict.specs.Walking.{inLine, doOne, doAll, Room, InRange, lineCut, Written};
+ghost use Rattle.verdict.specs.Walking.{inTrail, doOne, doAll, Room, InRange, trailCut, Written};
 
 // A place of the pool, or none.
 enum Place {
@@ -93,7 +93,7 @@ fn reach_of(pool: [Duty; Board::DUTIES], n: usize, d: Duty, user: u16, set: u32)
     let mut k: usize = 0;
     while k < n {
         let g = pool[k];
-        if acts::wholly_before(g, d) {
+        if windows::wholly_before(g, d) {
             let what = g.what;
             most = with_granted(most, user, what);
             least = without_revoked(least, user, what);
@@ -219,7 +219,7 @@ fn opposes_it(d: Duty, asked: Asked, x: Duty) -> bool
     let own = d.serial;
     let other = x.serial;
     let what = x.what;
-    (other.0 != own.0) & (needs_opposite(d.doer, asked, what) & !acts::wholly_before(d, x))
+    (other.0 != own.0) & (needs_opposite(d.doer, asked, what) & !windows::wholly_before(d, x))
 }
 
 // Whether g is between x and d and sets right what x sets.
@@ -228,7 +228,7 @@ fn heals_it(x: Duty, d: Duty, g: Duty) -> bool
 {
     let what = g.what;
     let other = x.what;
-    (acts::wholly_before(x, g) & acts::wholly_before(g, d)) & undoes_it(what, other)
+    (windows::wholly_before(x, g) & windows::wholly_before(g, d)) & undoes_it(what, other)
 }
 
 // The first duty that opposes d and that no duty heals. The two loops stand in one function: the pool is not
@@ -297,17 +297,17 @@ struct Walk {
     pub stuck: bool,
 }
 
-// Whether y stands early in the line of x and d, or between the two.
-fn in_line(y: Duty, x: Duty, d: Duty, late: bool) -> bool
-    ensures { λ r. ⌜ r ≡ inLine late x d y ⌝ }
+// Whether y stands early in the trail of x and d, or between the two.
+fn in_trail(y: Duty, x: Duty, d: Duty, late: bool) -> bool
+    ensures { λ r. ⌜ r ≡ inTrail late x d y ⌝ }
 {
     let own = y.serial;
     let other = x.serial;
     if late {
-        return acts::wholly_before(x, y) & acts::wholly_before(y, d);
+        return windows::wholly_before(x, y) & windows::wholly_before(y, d);
     }
-    let low = acts::wholly_before(y, d) | acts::wholly_before(y, x);
-    low & !(acts::wholly_before(x, y) | (own.0 == other.0))
+    let low = windows::wholly_before(y, d) | windows::wholly_before(y, x);
+    low & !(windows::wholly_before(x, y) | (own.0 == other.0))
 }
 
 // Do one duty, if none got stuck so far: write its serial, and make its change where it is permitted.
@@ -340,7 +340,7 @@ fn do_one(b: Board, y: Duty, walk: Walk, list: &mut [u32]) -> Walk
     }
 }
 
-// Do those duties of the pool, in its order, that stand early in the line of x and d, or between the two.
+// Do those duties of the pool, in its order, that stand early in the trail of x and d, or between the two.
 fn do_part(
     b: Board,
     pool: [Duty; Board::DUTIES],
@@ -351,15 +351,16 @@ fn do_part(
     walk: Walk,
     list: &mut [u32],
 ) -> Walk
-    requires { ⌜ (n ≤ maxDuties) × Room b (walk, now list) (keep (inLine late x d) (take n pool)) ⌝ }
+    requires { ⌜ (n ≤ maxDuties) × Room b (walk, now list) (keep (inTrail late x d) (take n pool)) ⌝ }
     ensures { λ r.
-        ⌜ (r, now (list .exit)) ≡ doAll b (walk, now (list .entry)) (keep (inLine late x d) (take n pool)) ⌝ }
+        ⌜ (r, now (list .exit))
+        ≡ doAll b (walk, now (list .entry)) (keep (inTrail late x d) (take n pool)) ⌝ }
 {
     let mut out = walk;
     let mut k: usize = 0;
     while k < n {
         let y = pool[k];
-        if in_line(y, x, d, late) {
+        if in_trail(y, x, d, late) {
             let next = do_one(b, y, out, list);
             out = next;
         }
@@ -368,8 +369,8 @@ fn do_part(
     out
 }
 
-// Do the line of x and d until a duty is not permitted: the serials stand at the start of the list, and their
-// number is answered.
+// Do the trail of x and d until a duty is not permitted: the serials stand at the start of the list, and
+// their number is answered.
 fn write_order(
     b: Board,
     pool: [Duty; Board::DUTIES],
@@ -379,8 +380,8 @@ fn write_order(
     list: &mut [u32],
 ) -> usize
     requires { ⌜ (n ≤ maxDuties) × InRange (x ∷ (d ∷ take n pool))
-        × (length (lineCut b (take n pool) x d) ≤ length (now list)) ⌝ }
-    ensures { λ r. ⌜ Written (lineCut b (take n pool) x d) (now (list .entry)) (now (list .exit)) r ⌝ }
+        × (length (trailCut b (take n pool) x d) ≤ length (now list)) ⌝ }
+    ensures { λ r. ⌜ Written (trailCut b (take n pool) x d) (now (list .entry)) (now (list .exit)) r ⌝ }
 {
     let holdings = b.holdings;
     let start = Walk {

@@ -4,9 +4,9 @@ use mathlib.Core.Path.{_≡_, sym, ap, _∙_}
 use Prim.Native.Nat.{_≤_, _-_, min}
 use borrow.Author.Needs.{needs}
 use lib.ListN.{length}
+use Rattle.orders.proofs.Search.{Left, hit, skip, over}
 use Rattle.board.specs.Permitted.{governs, byRule}
 use Rattle.board.proofs.Sized.{sized}
-use Rattle.acts.proofs.Search.{Left, hit, skip, over}
 use Rattle.acts.proofs.asked_by_rule.Statement.{statement}
 use Rattle.acts.proofs.asked_by_rule.Tie as tie
 

@@ -1,7 +1,8 @@
 -- `acts::is_met` meets its contract: what meets a role's need and a rule's needs is a law.
-use mathlib.Core.Path.{sym, ap, ap₂, _∙_}
+use mathlib.Core.Path.{_≡_, sym, ap, ap₂, _∙_}
 use mathlib.Core.Bool.{Bool, _&&_}
 use Prim.Native.Nat.{ℕ}
+use lib.ListN.{getD}
 use Rattle.board.specs.Permitted.{heldIn}
 use Rattle.acts.specs.Meets.{meetsSets}
 use Rattle.acts.proofs.RuleNeeds.{role-met, rule-met}
@@ -42,18 +43,18 @@ returns-2 c =
 
 returns-3 : tie.Need-returns-3
 returns-3 c =
-    let m = c .before .before .before .before in
-    let s = m .before .before in
-    let target = m .asked2 .given .0 .0 in
-    let rule = m .asked2 .given .0 .1 .0 in
+    let told = c .before .before .before .before in
+    let s = told .before .before in
+    let now = s .args .holdings .now in
+    let target = told .asked2 .given .0 .0 in
+    let rule = told .asked2 .given .0 .1 .0 in
+    let acts = c .before .before in
+    let actor : acts .holds2 .result ≡ heldIn now (s .args .doer, rule .actor) = acts .holds2 .ensures in
+    let held : c .before .held-by .result ≡ getD now target 0 = c .before .held-by .ensures in
+    let sets = c .meets .ensures ∙ ap (λ (x : ℕ). meetsSets x (rule .wanted) (rule .barred)) held in
     rw
-    (m .asked2 .given .1)
-    (ap₂
-    (λ (a b : Bool). a && b)
-    (c .before .before .holds2 .ensures)
-    (c .meets .ensures
-    ∙ ap (λ (set : ℕ). meetsSets set (rule .wanted) (rule .barred)) (c .before .held-by .ensures))
-    ∙ sym (rule-met (s .args .holdings .now) (s .args .doer) target rule))
+    (told .asked2 .given .1)
+    (ap₂ (λ (a b : Bool). a && b) actor sets ∙ sym (rule-met now (s .args .doer) target rule))
 
 pub is-met-spec : {M : Type 1} → statement M
 is-met-spec =

@@ -1,7 +1,7 @@
 -- `acts::make_change` meets its contract: the target's set is put back with the role, or without it.
-use mathlib.Core.Path.{ap, _∙_}
+use mathlib.Core.Path.{_≡_, ap, _∙_}
 use Prim.Native.Nat.{ℕ}
-use lib.ListN.{set}
+use lib.ListN.{getD, set}
 use Rattle.roles.specs.Roles.{withRole, withoutRole}
 use borrow.Author.Needs.{needs}
 use Rattle.acts.proofs.make_change.Statement.{statement}
@@ -36,25 +36,29 @@ enum-told c = search needs
 
 returns : tie.Need-returns
 returns c =
-    let m = c .before .before .before .before .before .before in
-    let target = m .what .given .0 .0 in
-    let role = m .what .given .0 .1 .0 in
-    let held = c .before .before .before .held-by .ensures in
-    let made = c .before .with-role .ensures ∙ ap (λ (x : ℕ). withRole x role) held in
-    rw
-    (m .what .given .1)
-    (c .put-set .ensures ∙ ap (λ (x : ℕ). set (m .before .before .args .holdings .now) target x) made)
+    let asked = c .before .before .before in
+    let told = asked .before .before .before in
+    let now = told .before .before .args .holdings .now in
+    let target = told .what .given .0 .0 in
+    let role = told .what .given .0 .1 .0 in
+    let held : asked .held-by .result ≡ getD now target 0 = asked .held-by .ensures in
+    let new = c .before .with-role in
+    let made = new .ensures ∙ ap (λ (x : ℕ). withRole x role) held in
+    let put : c .put-set .last .0 ≡ set now target (new .result) = c .put-set .ensures in
+    rw (told .what .given .1) (put ∙ ap (λ (x : ℕ). set now target x) made)
 
 returns-2 : tie.Need-returns-2
 returns-2 c =
-    let m = c .before .before .before .before .before .before in
-    let target = m .what2 .given .0 .0 in
-    let role = m .what2 .given .0 .1 .0 in
-    let held = c .before .before .before .held-by2 .ensures in
-    let made = c .before .without-role .ensures ∙ ap (λ (x : ℕ). withoutRole x role) held in
-    rw
-    (m .what2 .given .1)
-    (c .put-set2 .ensures ∙ ap (λ (x : ℕ). set (m .before .before .args .holdings .now) target x) made)
+    let asked = c .before .before .before in
+    let told = asked .before .before .before in
+    let now = told .before .before .args .holdings .now in
+    let target = told .what2 .given .0 .0 in
+    let role = told .what2 .given .0 .1 .0 in
+    let held : asked .held-by2 .result ≡ getD now target 0 = asked .held-by2 .ensures in
+    let new = c .before .without-role in
+    let made = new .ensures ∙ ap (λ (x : ℕ). withoutRole x role) held in
+    let put : c .put-set2 .last .0 ≡ set now target (new .result) = c .put-set2 .ensures in
+    rw (told .what2 .given .1) (put ∙ ap (λ (x : ℕ). set now target x) made)
 
 returns-3 : tie.Need-returns-3
 returns-3 c = search needs

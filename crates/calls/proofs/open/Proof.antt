@@ -1,5 +1,5 @@
 -- `calls::open` meets its contract: each answer is one of the four of proofs/Opening.antt.
-use mathlib.Core.Path.{_≡_}
+use mathlib.Core.Path.{_≡_, subst}
 use Prim.Native.Nat.{_≤_}
 use lib.ListN.{length}
 use borrow.Author.Needs.{needs}
@@ -12,20 +12,25 @@ use Rattle.calls.proofs.open.Statement.{statement}
 use Rattle.calls.proofs.open.Tie as tie
 
 -- past the second test the list has room, the file is accepted, and the board is the one that it says
-room :
-    (c : tie.Else2) → let start = c .before .before .before .before .before .before in
-    maxDuties ≤ length (start .args .list .now)
-room c = c .before .before .before .if1 .left
+module _ (c : tie.Else2) where
+  abbrev after-read : tie.After-read
+  after-read = c .before .before
 
-accepted :
-    (c : tie.Else2) → let start = c .before .before .before .before .before .before in
-    Answers (readChecks (start .args .s .now)) answer.done
-accepted c = rw (c .if2 .left) at (c .before .before .read .ensures .number)
+  abbrev long-enough : tie.Else1
+  long-enough = after-read .before
 
-is-said :
-    (c : tie.Else2) → let start = c .before .before .before .before .before .before in
-    c .before .before .read .result .board ≡ boardOf (start .args .s .now)
-is-said c = c .before .before .read .ensures .accepted (c .if2 .left)
+  abbrev start : tie.Start
+  start = long-enough .before .before .before
+
+  room : maxDuties ≤ length (start .args .list .now)
+  room = long-enough .if1 .left
+
+  accepted : Answers (readChecks (start .args .s .now)) answer.done
+  accepted =
+      subst (Answers (readChecks (start .args .s .now))) (c .if2 .left) (after-read .read .ensures .number)
+
+  is-said : after-read .read .result .board ≡ boardOf (start .args .s .now)
+  is-said = after-read .read .ensures .accepted (c .if2 .left)
 
 refused-requires : tie.Need-refused-requires
 refused-requires c κs = search needs
@@ -63,12 +68,12 @@ returns-3 c =
     _
     _
     (room read)
-    (accepted read)
     _
-    (is-said read)
     _
     (judged .check .result)
     (judged .check .ensures)
+    (accepted read)
+    (is-said read)
     (c .before .if3 .taken)
     (c .smallest .result)
     (c .smallest .ensures)
@@ -84,12 +89,12 @@ returns-4 c =
     _
     _
     (room read)
-    (accepted read)
     _
-    (is-said read)
     _
     (judged .check .result)
     (judged .check .ensures)
+    (accepted read)
+    (is-said read)
     (c .if3 .left)
 
 pub open-spec : {M : Type 1} → statement M

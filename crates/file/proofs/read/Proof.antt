@@ -11,7 +11,7 @@ use Rattle.board.proofs.AnswersLaws.{NoneApplies, done-none, refused-first, the
 use Rattle.file.specs.Parts.{Complete}
 use Rattle.file.specs.Reads.{headerChecks, recordChecks, readChecks, Reads}
 use Rattle.file.proofs.Accepted.{HeaderPasses, header-passes, header-refuses}
-use Rattle.file.proofs.Faults.{fault-answers}
+use Rattle.file.proofs.FirstFault.{fault-answers}
 use Rattle.file.proofs.read.Statement.{statement}
 use Rattle.file.proofs.read.Tie as tie
 
@@ -22,17 +22,18 @@ refusal :
 refusal f a e = record { number = a; accepted = λ z. absurd (f z); refused = λ z. e }
 
 -- past the header
-none : (c : tie.Else1) → NoneApplies (headerChecks (c .before .before .before .args .s .now))
+abbrev bytes : tie.Else1 → List ℕ
+bytes c = c .before .before .before .args .s .now
+
+none : (c : tie.Else1) → NoneApplies (headerChecks (bytes c))
 none c =
-    let s = c .before .before .before .args .s .now in
+    let s = bytes c in
     done-none (headerChecks s) (header-refuses s) (rw (c .if1 .left) at (c .before .header-answer .ensures))
 
-passes : (c : tie.Else1) → HeaderPasses (c .before .before .before .args .s .now)
-passes c = header-passes (c .before .before .before .args .s .now) (none c)
+passes : (c : tie.Else1) → HeaderPasses (bytes c)
+passes c = header-passes (bytes c) (none c)
 
-complete :
-    (c : tie.After-counts-of)
-    → Complete (c .before .before .before .before .args .s .now) (c .counts-of .result)
+complete : (c : tie.After-counts-of) → Complete (bytes (c .before)) (c .counts-of .result)
 complete c =
     let counts = c .counts-of .ensures in
     let p = passes (c .before) in
@@ -41,9 +42,9 @@ complete c =
 -- the answer where the header passed
 answered :
     (c : tie.After-first-fault)
-    → Answers (readChecks (c .before .before .before .before .before .args .s .now)) (c .first-fault .result)
+    → Answers (readChecks (bytes (c .before .before))) (c .first-fault .result)
 answered c =
-    let s = c .before .before .before .before .before .args .s .now in
+    let s = bytes (c .before .before) in
     then-second (headerChecks s) (recordChecks s) (c .first-fault .result) (none (c .before .before))
     (rw (c .first-fault .ensures) (fault-answers s))
 

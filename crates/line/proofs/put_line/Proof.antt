@@ -1,5 +1,5 @@
--- Word, number, numbers of the list and newline are put one after the other, and each has room: a word takes
--- at most 7 bytes, and a number with its space at most 21.
+-- Word, number, numbers of the list and newline are put one after the other, and each has room, since words
+-- and numbers are no longer than maxWord and maxNumber.
 use mathlib.Core.List.{[], _∷_, append-nil}
 use native.Mathlib.Omega.{arith}
 use borrow.Author.Needs.{needs}
@@ -9,6 +9,10 @@ use Rattle.line.proofs.NumberLaws.{numbers-length, first-numbers-length
 use Rattle.line.proofs.put_line.Statement.{statement}
 use Rattle.line.proofs.put_line.Tie as tie
 
+-- the function's start, seen from the place after the word
+abbrev start : tie.After-put → tie.Start
+start c = c .before .before .before .before
+
 put-requires : tie.Need-put-requires
 put-requires c κs = search needs
 
@@ -17,7 +21,8 @@ put-number-requires c κs = search needs
 
 put-numbers-requires : tie.Need-put-numbers-requires
 put-numbers-requires c κs =
-    let args = c .before .before .before .before .before .before .before .args in
+    let after-number = c .before in
+    let args = start (after-number .before .before) .args in
     (search needs, omega (arith, numbers-length (args .number ∷ [])))
 
 slice-aggregate-put : tie.Need-slice-aggregate-put
@@ -25,7 +30,9 @@ slice-aggregate-put c = search needs
 
 put-requires-2 : tie.Need-put-requires-2
 put-requires-2 c κs =
-    let args = c .before .before .before .before .before .before .before .before .before .before .args in
+    let after-numbers = c .before .before in
+    let after-number = after-numbers .before .before in
+    let args = start (after-number .before .before) .args in
     omega (arith, numbers-length (args .number ∷ []), first-numbers-length (args .n) (args .list .now))
 
 returns : tie.Need-returns
@@ -34,7 +41,7 @@ returns c =
     let after-number = after-numbers .before .before in
     let after-word = after-number .before .before in
     let all = put-then (after-number .put-number .ensures) (after-numbers .put-numbers .ensures) in
-    rw (append-nil (decimal (after-word .before .before .before .before .args .number))) at
+    rw (append-nil (decimal (start after-word .args .number))) at
     (put-then (after-word .put .ensures) (put-then all (c .put2 .ensures)))
 
 pub put-line-spec : {M : Type 1} → statement M

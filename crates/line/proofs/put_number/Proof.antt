@@ -34,10 +34,11 @@ same-length c = search needs
 
 returns : tie.Need-returns
 returns c =
-    let after-space = c .before .before .before .before .before .before .before .before in
+    let after-digits = c .before .before in
+    let before-digits = after-digits .before .before .before in
+    let after-space = before-digits .before .before .before in
     let spelt = after-space .before .before .before .before .spell in
-    let digits = c .before .before .put2 in
-    rw (append-nil, ← spelt .ensures .1) (put-then (after-space .put .ensures) (digits .ensures))
+    rw (append-nil, ← spelt .ensures .1) (put-then (after-space .put .ensures) (after-digits .put2 .ensures))
 
 pub put-number-spec : {M : Type 1} → statement M
 put-number-spec =

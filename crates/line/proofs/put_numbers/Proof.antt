@@ -33,9 +33,9 @@ cast-put-number c = omega (arith, c .shared-slice-known2 .given (c .before .befo
 
 put-number-requires : tie.Need-put-number-requires Inv-loop μ-loop
 put-number-requires c κs =
-    let l = c .before .before .before .loop in
-    let list = c .before .before .before .before .before .before .args .list .now in
-    omega (arith, first-numbers-length (l .i) list)
+    let here = c .before .before .before in
+    let start = here .before .before .before in
+    omega (arith, first-numbers-length (here .loop .i) (start .args .list .now))
 
 add-i : tie.Need-add-i Inv-loop μ-loop
 add-i c = search needs
@@ -45,10 +45,12 @@ loop-less c = search needs
 
 loop-again : tie.Need-loop-again Inv-loop μ-loop
 loop-again c =
-    let l = c .before .before .before .before .before .before .loop in
-    let list = c .before .before .before .before .before .before .before .before .before .args .list .now in
+    let after-number = c .before .before in
+    let here = after-number .before .before .before .before in
+    let l = here .loop in
+    let list = here .before .before .before .args .list .now in
     let within : l .i < length list = omega arith in
-    let more = put-then (l .inv .1) (c .before .before .put-number .ensures) in
+    let more = put-then (l .inv .1) (after-number .put-number .ensures) in
     (omega arith, rw (numbers-next list (l .i) within) more)
 
 same-length : tie.Need-same-length Inv-loop μ-loop

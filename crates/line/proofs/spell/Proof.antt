@@ -8,14 +8,14 @@ use native.Mathlib.Omega.{arith}
 use lib.ListN.{length, drop, set, length-drop, length-set}
 use lib.Seq.{take-all}
 use borrow.Author.Needs.{needs}
-use Rattle.line.specs.Line.{digits, decimal}
+use Rattle.line.specs.Line.{digits, maxDigits, decimal}
 use Rattle.line.proofs.NumberLaws.{none-yet, only-digit, one-digit-more, fewer-left}
 use Rattle.line.proofs.spell.Statement.{statement}
 use Rattle.line.proofs.spell.Tie as tie
 
 abbrev Inv-loop : tie.InvT-loop
 Inv-loop n text₀ at₀ rest₀ text at rest =
-    (1 ≤ at) × (at ≤ 20) × (rest < 10 ^ at) × (length text ≡ 20)
+    (1 ≤ at) × (at ≤ maxDigits) × (rest < 10 ^ at) × (length text ≡ maxDigits)
     × (digits at rest ++ drop at text ≡ decimal n)
 
 abbrev μ-loop : tie.MeasureT-loop
@@ -65,8 +65,8 @@ returns c =
     let room : l .at ≤ length (l .text) = omega arith in
     let one = only-digit (l .text) (l .rest) (l .at) (l .inv .0) room (omega arith) in
     let written = drop (l .at - 1) (set (l .text) (l .at - 1) (c .digit2 .result)) in
-    let all : length written ≤ 20 - (l .at - 1) = simp (length-drop, length-set) (omega arith) in
-    (omega arith, take-all (20 - (l .at - 1)) written all ∙ rw (c .digit2 .ensures) (one ∙ l .inv .4))
+    let all : length written ≤ maxDigits - (l .at - 1) = simp (length-drop, length-set) (omega arith) in
+    (omega arith, take-all (maxDigits - (l .at - 1)) written all ∙ rw (c .digit2 .ensures) (one ∙ l .inv .4))
 
 pub spell-spec : {M : Type 1} → statement M
 spell-spec =

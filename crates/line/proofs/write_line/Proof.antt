@@ -33,11 +33,14 @@ put-line-requires-2 c κs = search needs
 returns-2 : tie.Need-returns-2
 unfolding lineOf
 returns-2 c =
-    let args = c .before .before .before .before .before .before .before .before .before .args in
+    let counted = c .before .before .before in
+    let second = counted .before in
+    let first = second .before .before in
+    let args = first .before .before .before .args in
     let list = args .list .now in
-    let not-done = ne-eqb _ _ (c .before .before .before .before .before .before .if1 .left) in
-    let red = eq-eqb _ _ (c .before .before .before .before .if2 .taken) in
-    let n = c .before .before .before .shown in
+    let not-done = ne-eqb _ _ (first .if1 .left) in
+    let red = eq-eqb _ _ (second .if2 .taken) in
+    let n = counted .shown in
     let shown : take (n .result) list ≡ take (min (args .answer .length) maxDuties) list =
     rw (n .ensures) (take-min (min (args .answer .length) maxDuties) list) in
     rw (not-done, red, ← shown) (c .put-line2 .ensures)
@@ -54,8 +57,10 @@ put-line-requires-3 c κs = search needs
 returns-3 : tie.Need-returns-3
 unfolding lineOf
 returns-3 c =
-    let not-done = ne-eqb _ _ (c .before .before .before .before .before .before .if1 .left) in
-    let not-red = ne-eqb _ _ (c .before .before .before .before .if2 .left) in
+    let second = c .before .before .before .before in
+    let first = second .before .before in
+    let not-done = ne-eqb _ _ (first .if1 .left) in
+    let not-red = ne-eqb _ _ (second .if2 .left) in
     rw (not-done, not-red) (c .put-line3 .ensures)
 
 pub write-line-spec : {M : Type 1} → statement M

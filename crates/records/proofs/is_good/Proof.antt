@@ -21,14 +21,17 @@ duties-good-requires c κs = search needs
 
 returns : tie.Need-returns
 returns c =
+    let permitted = c .before .before in
+    let counted = permitted .before .before in
+    let start = counted .before .before .before in
     rw (
-      c .before .before .before .before .counts-fit .ensures,
-      c .before .before .before .holdings-good .ensures,
-      c .before .before .permissions-good .ensures,
+      counted .counts-fit .ensures,
+      permitted .before .holdings-good .ensures,
+      permitted .permissions-good .ensures,
       c .before .rules-good .ensures,
       c .duties-good .ensures,
     )
-    (by-parts (c .before .before .before .before .before .before .before .args .b))
+    (by-parts (start .args .b))
 
 pub is-good-spec : {M : Type 1} → statement M
 is-good-spec =

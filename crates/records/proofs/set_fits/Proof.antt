@@ -1,5 +1,5 @@
 -- `records::set_fits` meets its contract: nothing is left of a number shifted by r just if it is below 2 ^ r.
--- A set of 32 bits is below 2 ^ r for each r from 32 on.
+-- A set is below 2 ^ r for each r from its width on.
 use mathlib.Core.Path.{sym}
 use borrow.Author.Needs.{needs}
 use Rattle.records.proofs.Sets.{shifted-out, all-below}

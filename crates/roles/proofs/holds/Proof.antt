@@ -1,5 +1,5 @@
 -- `roles::holds` meets its contract: the shifted set's lowest bit is the role's, and no set has a role from
--- 32 on.
+-- its width on.
 use mathlib.Core.Path.{sym}
 use borrow.Author.Needs.{needs}
 use Rattle.roles.proofs.Laws.{beyond}

@@ -5,14 +5,14 @@ use mathlib.Core.Logic.{⊎-elim}
 use Prim.Native.Nat.{_-_, _≤_}
 use lib.ListN.{length}
 use borrow.Author.Needs.{needs}
-use Rattle.verdict.specs.Walking.{inLine}
+use Rattle.verdict.specs.Walking.{inTrail}
 use Rattle.verdict.proofs.Walks.{Passed, begun, turn-room, turn-done, turn-skips, part-done}
 use Rattle.verdict.proofs.do_part.Statement.{statement}
 use Rattle.verdict.proofs.do_part.Tie as tie
 
 abbrev Inv-loop : tie.InvT-loop
 Inv-loop b n x d late list₀ pool out₀ k₀ list out k =
-    (k ≤ n) × Passed b (inLine late x d) pool n (out₀, list₀) (out, list) k
+    (k ≤ n) × Passed b (inTrail late x d) pool n (out₀, list₀) (out, list) k
 
 abbrev μ-loop : tie.MeasureT-loop
 μ-loop b n x d late list₀ pool out₀ k₀ list out k = n - k
@@ -30,8 +30,8 @@ mul-y c = search needs
 array-copy-out-y : tie.Need-array-copy-out-y Inv-loop μ-loop
 array-copy-out-y c = search needs
 
-in-line-requires : tie.Need-in-line-requires Inv-loop μ-loop
-in-line-requires c κs = search needs
+in-trail-requires : tie.Need-in-trail-requires Inv-loop μ-loop
+in-trail-requires c κs = search needs
 
 do-one-requires : tie.Need-do-one-requires Inv-loop μ-loop
 do-one-requires c κs =
@@ -39,7 +39,7 @@ do-one-requires c κs =
     let turn = tested .before .before in
     let s = turn .before .before .before in
     turn-room _ _ _ _ _ _ _ _ (full s) (search needs) (turn .before .loop .inv .1)
-    (sym (tested .in-line .ensures) ∙ c .before .if1 .taken) (s .pre .1)
+    (sym (tested .in-trail .ensures) ∙ c .before .if1 .taken) (s .pre .1)
 
 add-k : tie.Need-add-k Inv-loop μ-loop
 add-k c = search needs
@@ -53,7 +53,7 @@ loop-again c =
     let turn = tested .before .before in
     let room = full (turn .before .before .before) in
     let inv = turn .before .loop .inv .1 in
-    let is = sym (tested .in-line .ensures) in
+    let is = sym (tested .in-trail .ensures) in
     ⊎-elim
     (λ w. (
       search needs,
@@ -84,7 +84,7 @@ do-part-spec =
     loop-holds
     mul-y
     array-copy-out-y
-    in-line-requires
+    in-trail-requires
     do-one-requires
     add-k
     loop-less

@@ -1,5 +1,5 @@
 -- `verdict::judge` meets its contract: where `trouble_of` finds nothing the board is green, and what it finds
--- makes the cut line that `write_order` writes a failing order.
+-- makes the cut trail that `write_order` writes a failing order.
 use mathlib.Core.Path.{refl}
 use mathlib.Core.Logic.{inl, inr}
 use mathlib.Core.List.{List}

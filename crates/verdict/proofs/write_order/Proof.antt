@@ -1,5 +1,5 @@
--- `verdict::write_order` meets its contract: its four calls do the four parts of the line, and what a walk
--- writes of a line is the line cut after the first duty that is not permitted.
+-- `verdict::write_order` meets its contract: its four calls do the four parts of the trail, and what a walk
+-- writes of a trail is the trail cut after the first duty that is not permitted.
 use mathlib.Core.Bool.{Bool, true, false}
 use mathlib.Core.List.{List, [], _∷_, _++_}
 use Prim.Native.Nat.{ℕ}
@@ -9,9 +9,9 @@ use Rattle.orders.specs.Lists.{keep}
 use Rattle.board.specs.declared.Duty.{Duty}
 use Rattle.board.proofs.Sized.{sized}
 use Rattle.verdict.specs.declared.Walk.{Walk}
-use Rattle.verdict.specs.Walking.{inLine, Room, Written, lineCut}
+use Rattle.verdict.specs.Walking.{inTrail, Room, Written, trailCut}
 use Rattle.verdict.proofs.Walks.{begun, did-one, did-all, room-one, room-first}
-use Rattle.verdict.proofs.Cutting.{Left, line-room, line-written}
+use Rattle.verdict.proofs.Cutting.{Left, trail-room, trail-written}
 use Rattle.verdict.proofs.write_order.Statement.{statement}
 use Rattle.verdict.proofs.write_order.Tie as tie
 
@@ -19,23 +19,23 @@ module _ (s : tie.Start) where
   abbrev pool : List Duty
   pool = take (s .args .n) (s .args .pool)
 
-  -- those that stand early in the line, or between
+  -- those that stand early in the trail, or between
   abbrev part : Bool → List Duty
-  part late = keep (inLine late (s .args .x) (s .args .d)) pool
+  part late = keep (inTrail late (s .args .x) (s .args .d)) pool
 
-  abbrev OnLine : Walk × List ℕ → List Duty → Type 0
-  OnLine = Left (s .args .b) pool (s .args .x) (s .args .d) (s .args .list .now)
+  abbrev OnTrail : Walk × List ℕ → List Duty → Type 0
+  OnTrail = Left (s .args .b) pool (s .args .x) (s .args .d) (s .args .list .now)
 
-  room : (now : Walk × List ℕ) (l : List Duty) → OnLine now l → Room (s .args .b) now l
-  room = line-room _ _ _ _ _ (sized (s .args .b) _ (s .good .0) .holdings) (s .pre .1) (s .pre .2)
+  room : (now : Walk × List ℕ) (l : List Duty) → OnTrail now l → Room (s .args .b) now l
+  room = trail-room _ _ _ _ _ (sized (s .args .b) _ (s .good .0) .holdings) (s .pre .1) (s .pre .2)
 
   written :
-      (now : Walk × List ℕ) → OnLine now []
-      → Written (lineCut (s .args .b) pool (s .args .x) (s .args .d)) (s .args .list .now) (now .1)
+      (now : Walk × List ℕ) → OnTrail now []
+      → Written (trailCut (s .args .b) pool (s .args .x) (s .args .d)) (s .args .list .now) (now .1)
       (now .0 .length)
-  written = line-written _ _ _ _ _ (sized (s .args .b) _ (s .good .0) .holdings) (s .pre .1) (s .pre .2)
+  written = trail-written _ _ _ _ _ (sized (s .args .b) _ (s .good .0) .holdings) (s .pre .1) (s .pre .2)
 
--- ---- what is left of the line after each call
+-- ---- what is left of the trail after each call
 
 abbrev start₁ : tie.After-do-part → tie.Start
 start₁ c = c .before .before .before .before
@@ -48,19 +48,19 @@ start₃ c = start₂ (c .before .before .before .before)
 
 left₁ :
     (c : tie.After-do-part)
-    → OnLine (start₁ c) (c .do-part .result, c .do-part .last .1 .1 .1 .1 .1 .1 .1 .0)
+    → OnTrail (start₁ c) (c .do-part .result, c .do-part .last .1 .1 .1 .1 .1 .1 .1 .0)
     (start₁ c .args .x ∷ (part (start₁ c) true ++ (start₁ c .args .d ∷ [])))
 left₁ c = did-all _ _ _ _ _ _ (part (start₁ c) false) (begun _ _ _) (c .do-part .ensures)
 
 left₂ :
     (c : tie.After-do-one)
-    → OnLine (start₂ c) (c .do-one .result, c .do-one .last .1 .1 .1 .0)
+    → OnTrail (start₂ c) (c .do-one .result, c .do-one .last .1 .1 .1 .0)
     (part (start₂ c) true ++ (start₂ c .args .d ∷ []))
 left₂ c = did-one _ _ _ _ _ _ _ (left₁ (c .before .before .before .before)) (c .do-one .ensures)
 
 left₃ :
     (c : tie.After-do-part2)
-    → OnLine (start₃ c) (c .do-part2 .result, c .do-part2 .last .1 .1 .1 .1 .1 .1 .1 .0)
+    → OnTrail (start₃ c) (c .do-part2 .result, c .do-part2 .last .1 .1 .1 .1 .1 .1 .1 .0)
     (start₃ c .args .d ∷ [])
 left₃ c =
     let second = left₂ (c .before .before .before .before) in

@@ -1,0 +1,3 @@
+pub mod Judged
+pub mod Says
+pub mod Settled
