@@ -1,7 +1,7 @@
 """live_model.py: the live board once more, in Python, written from document 01 alone. It shares nothing with
-the crates: its own reading of a board file, its own test of a board value, its own verdict (every allowed order
-walked, or for large pools the criterion of document 01's fact), its own calls. `replayed` gives the lines that
-`replay` has to print for an input. Needs Python 3 alone."""
+the crates: its own reading of a board file, its own test of a board value, its own verdict (every allowed
+order walked, or for large pools the criterion of document 01's fact), its own calls. `replayed` gives the
+lines that `replay` has to print for an input. Needs Python 3 alone."""
 import struct
 
 USERS, ROLES, PERMISSIONS, RULES, DUTIES = 64, 32, 512, 64, 128
@@ -397,7 +397,7 @@ class Record:
 
 
 class Line:
-    """A line to be printed: its words; with 8 the words before the failing order, and the board that is red."""
+    """A line to be printed: its words; with 8 those before the failing order, and the board that is red."""
 
     def __init__(self, words, red=None):
         self.words, self.red = words, red

@@ -1,7 +1,7 @@
 #!/usr/bin/env python3
 """replay_random.py [SESSIONS [SEED [PROGRAM]]]: random sessions through the program `replay`, every line
-compared with the model of live_model.py; failing orders are checked for truth. 2,000 sessions with seed 1, and
-target/bin/replay, where left out (`rt check replay` builds it). Not in the gate. Needs Python 3 alone."""
+compared with the model of live_model.py; failing orders are checked for truth. 2,000 sessions with seed 1,
+and target/bin/replay, where left out (`rt check replay` builds it). Not in the gate. Needs Python 3 alone."""
 import collections
 import os
 import random

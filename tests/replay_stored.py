@@ -1,9 +1,9 @@
 #!/usr/bin/env python3
 """replay_stored.py: makes the stored run of `replay`, its stdin and stdout, from crates/replay/calls.txt.
 
-stdout is not what the program printed: it comes from the model of live_model.py, which shares nothing with the
-program. The model has to find each failing order to be the only one, else this stops; so every line is settled.
-The answers that are met are listed at the end. Needs Python 3 alone."""
+stdout is not what the program printed: it comes from the model of live_model.py, which shares nothing with
+the program. The model has to find each failing order to be the only one, else this stops; so every line is
+settled. The answers that are met are listed at the end. Needs Python 3 alone."""
 import os
 import sys
 
