@@ -1,5 +1,6 @@
--- The board value after an act and after a duty is taken out, field by field. That on a good board value they are the
--- ones that say `acted` and `withdrawn` (crate board, specs/After.antt) is proved in proofs/AfterLaws.antt.
+-- The board value after an act and after a duty is taken out, field by field. That on a good board value they
+-- are the ones that say `acted` and `withdrawn` (crate board, specs/After.antt) is proved in
+-- proofs/AfterLaws.antt.
 use Prim.Native.Nat.{ℕ}
 use lib.ListN.{length}
 use Rattle.board.specs.declared.Board.{Board}

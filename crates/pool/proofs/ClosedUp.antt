@@ -1,5 +1,5 @@
 -- The loop of `without_serial`: those of the first i members that pass a test stand at the start of the room,
--- closed up, with filler in the rest. A turn writes the next one in the place of the first filler, or nothing.
+-- closed up, with filler in the rest. A turn writes the next in the place of the first filler, or nothing.
 use mathlib.Core.Path.{_≡_, refl, sym, _∙_}
 use mathlib.Core.Bool.{Bool, true, false}
 use mathlib.Core.List.{List, [], _∷_, _++_, append-nil}
@@ -43,7 +43,8 @@ padded-one filler room l x h =
 -- ---- the loop
 
 -- of the first i members those that pass stand in `out`, closed up, and they are `count`
-pub record ClosedUp {A : Type 0} (p : A → Bool) (filler : A) (room : ℕ) (l out : List A) (count i : ℕ) : Type 0
+pub record ClosedUp
+    {A : Type 0} (p : A → Bool) (filler : A) (room : ℕ) (l out : List A) (count i : ℕ) : Type 0
   where
     pub few : count ≤ i
     pub long : length out ≡ room

@@ -1,5 +1,5 @@
--- A loop over the first n members of a list that stops at the list's end too: what its test tells in a turn and
--- at the end.
+-- A loop over the first n members of a list that stops at the list's end too: what its test tells in a turn
+-- and at the end.
 use mathlib.Core.Path.{_≡_, sym, _∙_}
 use mathlib.Core.Logic.{_⊎_, inl, inr, ⊎-elim}
 use mathlib.Core.Bool.{true, false, _&&_}

@@ -1,5 +1,5 @@
-// The open duties: in order of start, the one with a serial, whether one is wholly before a duty, and those that are
-// left when one is taken out.
+// The open duties: in order of start, the one with a serial, whether one is wholly before a duty, and those
+// that are left when one is taken out.
 use board::Board;
 use board::Duty;
 use board::Serial;

@@ -1,5 +1,5 @@
-// What the calls on the live board ask, in raw numbers, and the test of what is to be done (answer 11). A duty is named
-// by its serial.
+// What the calls on the live board ask, in raw numbers, and the test of what is to be done (answer 11). A
+// duty is named by its serial.
 use board::Counts;
 use board::Serial;
 ghost use mathlib.Core.Path.{_≡_};

@@ -1,5 +1,5 @@
--- `acted` is right: the holdings are changed as `make_change` says, the clock is the given one, and the rest is
--- taken over.
+-- `acted` is right: the holdings are changed as `make_change` says, the clock is the given one, and the rest
+-- is taken over.
 use mathlib.Core.Path.{refl}
 use borrow.Author.Needs.{needs}
 use Rattle.after.specs.Boards.{actedBoard}

@@ -1,5 +1,5 @@
--- `withdrawn` is right: the duties and their count are those that `without_serial` leaves, the clock is the given
--- one, and the rest is taken over.
+-- `withdrawn` is right: the duties and their count are those that `without_serial` leaves, the clock is the
+-- given one, and the rest is taken over.
 use mathlib.Core.Path.{refl}
 use borrow.Author.Needs.{needs}
 use Rattle.after.specs.Boards.{withdrawnBoard}

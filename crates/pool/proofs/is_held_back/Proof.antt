@@ -1,4 +1,4 @@
--- `is_held_back` is right: none of the first i duties is wholly before d, and at the end these are the first n.
+-- `is_held_back` is right: none of the first i duties is wholly before d; at the end they are the first n.
 use mathlib.Core.Path.{_≡_, refl, sym, _∙_}
 use mathlib.Core.Bool.{Bool, false}
 use Prim.Native.Nat.{_-_, _≤_, _<_, min}
@@ -50,9 +50,10 @@ returns : tie.Need-returns Inv-loop μ-loop
 returns c =
     let turn = c .before .before .before in
     let s = turn .before .before .args in
+    let l = turn .before .loop in
     let h = within turn in
     let passes = sym (c .before .wholly-before .ensures) ∙ c .if1 .taken in
-    sym (some-at (holdsBack (s .d)) (s .t1) (s .n) (turn .before .loop .i) _ (omega arith) (omega arith) passes)
+    sym (some-at (holdsBack (s .d)) (s .t1) (s .n) (l .i) _ (omega arith) (omega arith) passes)
 
 add-i : tie.Need-add-i Inv-loop μ-loop
 add-i c = let h = within (c .before .before .before) in search needs

@@ -1,5 +1,5 @@
--- `with_serial` is right: what is left at place i finds what the first n duties find, and at the end nothing is
--- left.
+-- `with_serial` is right: what is left at place i finds what the first n duties find, and at the end nothing
+-- is left.
 use mathlib.Core.Path.{_≡_, refl, sym, ap, _∙_}
 use Prim.Native.Nat.{_-_, _<_, min}
 use lib.ListN.{length}

@@ -1,5 +1,5 @@
--- `without_serial` is right: of the first i duties those without the serial stand closed up at the start of the
--- room, with filler in the rest, and at the end the first i are the first n.
+-- `without_serial` is right: of the first i duties those without the serial stand closed up at the start of
+-- the room, with filler in the rest, and at the end the first i are the first n.
 use mathlib.Core.Path.{_≡_, sym, ap, _∙_}
 use mathlib.Core.Logic.{⊎-elim}
 use mathlib.Core.Bool.{Bool, not}

@@ -18,10 +18,10 @@ second-fits-requires c κs = search needs
 
 returns : tie.Need-returns
 returns c =
-    let start = c .before .before .before .before .args in
+    let s = c .before .before .before .before .args in
     let what = c .before .before .before .what-of .ensures in
-    let fits = c .before .what-fits .ensures ∙ ap (whatFits (start .counts .users) (start .counts .roles)) what in
-    λ i. ltb (start .doer) (start .counts .users) && (fits i && c .second-fits .ensures i)
+    let fits = c .before .what-fits .ensures ∙ ap (whatFits (s .counts .users) (s .counts .roles)) what in
+    λ i. ltb (s .doer) (s .counts .users) && (fits i && c .second-fits .ensures i)
 
 pub doing-fits-spec : {M : Type 1} → statement M
 doing-fits-spec =
