@@ -7,8 +7,9 @@ use outcomes::Outcome;
 use pool::Found;
 use requests::AskDo;
 ghost use mathlib.Core.Path.{_≡_};
+ghost use mathlib.Core.Bool.{true};
 ghost use Rattle.board.specs.Answers.{Answers};
-ghost use Rattle.board.specs.View.{view};
+ghost use Rattle.board.specs.Good.{good};
 ghost use Rattle.outcomes.specs.Outcomes.{Flagged};
 ghost use Rattle.do_duty.specs.Does.{boardChecks, dutyChecks, Does};
 
@@ -27,6 +28,7 @@ fn board_refusal(b: Board, clock: u32) -> u8
 
 // For the open duty d: 13, 14, 15, or 0 where none of these applies.
 fn duty_refusal(b: Board, d: Duty, clock: u32) -> u8
+    requires { ⌜ good b ≡ true ⌝ }
     ensures { λ r. ⌜ Answers (dutyChecks b d clock) r ⌝ }
 {
     if !windows::in_window(clock, d) {

@@ -3,3 +3,4 @@ pub mod Laws
 pub mod PutIn
 pub mod PutAll
 pub mod ClosedUp
+pub mod FoundLaws

@@ -1,25 +1,30 @@
+-- `do_duty::board_refusal` meets its contract: 19, then 10.
+use mathlib.Core.Path.{_≡_, refl, sym, _∙_}
+use mathlib.Core.Logic.{inl, inr}
+use mathlib.Core.Bool.{true}
+use native.Mathlib.Omega.{arith}
 use borrow.Author.Needs.{needs}
+use Rattle.orders.proofs.Tests.{clash, not-true, not-false}
+use Rattle.board.specs.Good.{good}
 use Rattle.do_duty.proofs.board_refusal.Statement.{statement}
 use Rattle.do_duty.proofs.board_refusal.Tie as tie
-use Rattle.do_duty.proofs.board_refusal.Reads as reads
-use Rattle.do_duty.proofs.board_refusal.Lts as lts
-use Rattle.records.proofs.is_good.Reads as is-good-reads
 
--- src/lib.rt:19:9
+whole : (c : tie.Else1) → good (c .before .before .args .b) ≡ true
+whole c = sym (c .before .is-good .ensures) ∙ not-false (c .before .is-good .result) (c .if1 .left)
+
 is-good-requires : tie.Need-is-good-requires
 is-good-requires c κs = search needs
 
--- src/lib.rt:20:9
 returns : tie.Need-returns
-returns c = ?
+returns c =
+    inl (sym (c .before .is-good .ensures) ∙ not-true (c .before .is-good .result) (c .if1 .taken), refl)
 
--- src/lib.rt:23:9
 returns-2 : tie.Need-returns-2
-returns-2 c = ?
+returns-2 c = inr (λ e. clash (whole (c .before .before)) e, inl (c .if2 .taken, refl))
 
--- src/lib.rt:16:1
 returns-3 : tie.Need-returns-3
-returns-3 c = ?
+returns-3 c =
+    inr (λ e. clash (whole (c .before .before)) e, inr (λ h. let k = c .if2 .left in omega arith, refl))
 
 pub board-refusal-spec : {M : Type 1} → statement M
 board-refusal-spec = tie.close (tie.spec is-good-requires returns returns-2 returns-3)

@@ -1,43 +1,75 @@
+-- `do_duty::duty_refusal` meets its contract: 13, then 14, then 15.
+use mathlib.Core.Path.{_≡_, refl, sym, _∙_}
+use mathlib.Core.Logic.{inl, inr}
+use mathlib.Core.Bool.{true, false}
 use borrow.Author.Needs.{needs}
+use Rattle.orders.specs.Lists.{any}
+use Rattle.orders.proofs.Tests.{clash, not-true, not-false, and-true}
+use Rattle.board.specs.Green.{permittedNow}
+use Rattle.board.specs.View.{view}
+use Rattle.board.specs.Windows.{whollyBefore, inWindow}
+use Rattle.board.proofs.GoodLaws.{good→filler}
+use Rattle.acts.proofs.Laws.{permitted-now}
 use Rattle.do_duty.proofs.duty_refusal.Statement.{statement}
 use Rattle.do_duty.proofs.duty_refusal.Tie as tie
-use Rattle.do_duty.proofs.duty_refusal.Reads as reads
-use Rattle.do_duty.proofs.duty_refusal.Lts as lts
-use Rattle.acts.proofs.permitted.Reads as permitted-reads
-use Rattle.pool.proofs.is_held_back.Reads as is-held-back-reads
-use Rattle.windows.proofs.in_window.Reads as in-window-reads
 
--- src/lib.rt:32:9
+abbrev start1 : tie.Else1 → tie.Start
+start1 c = c .before .before
+
+inside : (c : tie.Else1) → inWindow (start1 c .args .clock) (start1 c .args .d) ≡ true
+inside c = sym (c .before .in-window .ensures) ∙ not-false (c .before .in-window .result) (c .if1 .left)
+
+abbrev else1 : tie.Else2 → tie.Else1
+else1 c = c .before .before .before .before
+
+free :
+    (c : tie.Else2)
+    → let s = start1 (else1 c) in
+    any (λ y. whollyBefore y (s .args .d)) (view (s .args .b) .duties) ≡ false
+free c = sym (c .before .is-held-back .ensures) ∙ c .if2 .left
+
+permitted-is :
+    (c : tie.After-permitted)
+    → let s = start1 (else1 (c .before)) in
+    c .permitted .result ≡ permittedNow (view (s .args .b)) (s .args .d .doer) (s .args .d .what)
+permitted-is c =
+    let s = start1 (else1 (c .before)) in
+    c .permitted .ensures
+    ∙ permitted-now (s .args .b) (and-true _ _ (good→filler (s .args .b) (s .pre)) .0) (s .args .d .doer)
+    (s .args .d .what)
+
 in-window-requires : tie.Need-in-window-requires
 in-window-requires c κs = search needs
 
--- src/lib.rt:33:9
 returns : tie.Need-returns
-returns c = ?
+returns c =
+    inl (sym (c .before .in-window .ensures) ∙ not-true (c .before .in-window .result) (c .if1 .taken), refl)
 
--- src/lib.rt:36:13
 cast-n : tie.Need-cast-n
 cast-n c = search needs
 
--- src/lib.rt:37:8
 is-held-back-requires : tie.Need-is-held-back-requires
 is-held-back-requires c κs = search needs
 
--- src/lib.rt:38:9
 returns-2 : tie.Need-returns-2
-returns-2 c = ?
+returns-2 c =
+    let one : tie.Else1 = c .before .before .before .before in
+    inr (λ e. clash (inside one) e, inl (sym (c .before .is-held-back .ensures) ∙ c .if2 .taken, refl))
 
--- src/lib.rt:41:9
 permitted-requires : tie.Need-permitted-requires
 permitted-requires c κs = search needs
 
--- src/lib.rt:42:9
 returns-3 : tie.Need-returns-3
-returns-3 c = ?
+returns-3 c =
+    let two : tie.Else2 = c .before .before in
+    let may-not = sym (permitted-is (c .before)) ∙ not-true (c .before .permitted .result) (c .if3 .taken) in
+    inr (λ e. clash (inside (else1 two)) e, inr (λ e. clash e (free two), inl (may-not, refl)))
 
--- src/lib.rt:29:1
 returns-4 : tie.Need-returns-4
-returns-4 c = ?
+returns-4 c =
+    let two : tie.Else2 = c .before .before in
+    let may = sym (permitted-is (c .before)) ∙ not-false (c .before .permitted .result) (c .if3 .left) in
+    inr (λ e. clash (inside (else1 two)) e, inr (λ e. clash e (free two), inr (λ e. clash may e, refl)))
 
 pub duty-refusal-spec : {M : Type 1} → statement M
 duty-refusal-spec =
