@@ -1,6 +1,5 @@
 // The board after an act, and after a duty is taken out: nothing else changes.
 use board::Board;
-use board::Counts;
 use board::Serial;
 use board::What;
 ghost use mathlib.Core.Path.{_≡_};
@@ -12,11 +11,10 @@ pub fn acted(b: Board, clock: u32, what: What) -> Board
 {
     let mut holdings = b.holdings;
     acts::make_change(&mut holdings, what);
-    Board {
-        clock,
-        holdings,
-        ..b
-    }
+    let mut after = b;
+    after.clock = clock;
+    after.holdings = holdings;
+    after
 }
 
 // The board without the duty with the serial, at the clock.
@@ -27,14 +25,9 @@ pub fn withdrawn(b: Board, clock: u32, serial: Serial) -> Board
     let n = b.counts.duties as usize;
     let rest = pool::without_serial(duties, n, serial);
     let left = rest.duties;
-    let counts = Counts {
-        duties: rest.count,
-        ..b.counts
-    };
-    Board {
-        counts,
-        clock,
-        duties: left,
-        ..b
-    }
+    let mut after = b;
+    after.counts.duties = rest.count;
+    after.clock = clock;
+    after.duties = left;
+    after
 }
