@@ -1,0 +1,4 @@
+pub mod GoodAndGreen
+pub mod Calls
+pub mod InTurn
+pub mod Given
