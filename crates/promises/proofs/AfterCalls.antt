@@ -1,6 +1,6 @@
--- What the board says after an accepted call keeps the rules and has room; and it is green if the board was. After a
--- duty was done that follows from the theory, since no open duty is wholly before it; after an admission, an act and a
--- withdrawal from the check of 8.
+-- What the board says after an accepted call keeps the rules and has room; and it is green if the board was.
+-- After a duty was done that follows from the theory, since no open duty is wholly before it; after an
+-- admission, an act and a withdrawal from the check of 8.
 use mathlib.Core.Path.{_≡_, refl, sym}
 use mathlib.Core.Bool.{true, false}
 use mathlib.Core.List.{List, [], _∷_}
@@ -84,7 +84,10 @@ module _ (b : Board) (q : AskDo) (none : NoneApplies (doChecks b q)) where
         duty = d;
         has-serial = e;
         next =
-            record { open-d = m; free = λ y n. is-false (whollyBefore y d) (λ t. none .1 .1 .1 .1 .0 (held y n t)) };
+            record {
+              open-d = m;
+              free = λ y n. is-false (whollyBefore y d) (λ t. none .1 .1 .1 .1 .0 (held y n t));
+            };
       }
     where
       held :
@@ -114,7 +117,8 @@ pub after-green :
     (b : Board) → GoodAndGreen b → (call : Call) → NoneApplies (checksOf b call) → Green (afterCall b call)
 after-green b g (doDuty q) none =
     let n = next-named b q none in
-    rw (← n .has-serial) (did-green (view b) (whole-fits b (g .whole)) (q .clock) (n .duty) (n .next) (g .green))
+    let fits = whole-fits b (g .whole) in
+    rw (← n .has-serial) (did-green (view b) fits (q .clock) (n .duty) (n .next) (g .green))
 after-green b g (checks before) none = g .green
 after-green b g (admit before q) none =
     let fits = after-fits b (g .whole) (admit before q) none in

@@ -1,28 +1,24 @@
--- If no open window is over, in each allowed order, each duty done at the earliest minute its window and the clock
--- permit, all are accepted and none is left. The idea: the theory of orders carries the order out by the clock; at each
--- of its steps no check of do applies, and the board that do's promise names is the one that the theory goes on with.
+-- If no open window is over, in each allowed order, each duty done at the earliest minute its window and the
+-- clock permit, all are accepted and none is left. The idea: the theory carries the order out by the clock; at
+-- each of its steps no check of do applies, and it goes on with the board that do's promise names.
 use mathlib.Core.Path.{_≡_, refl, sym, ap, subst, _∙_}
 use mathlib.Core.Bool.{true}
 use mathlib.Core.List.{List, [], _∷_}
-use Prim.Native.Nat.{ℕ, _≤_}
 use native.Mathlib.Omega.{arith}
 use borrow.Author.Tests.{ltb-false, le-leb}
-use Rattle.orders.specs.Lists.{Mem}
 use Rattle.orders.specs.Orders.{Order}
-use Rattle.orders.specs.Walks.{without}
 use Rattle.orders.specs.Clock as clock
 use Rattle.orders.proofs.Clock.{carried-out}
 use Rattle.orders.proofs.Tests.{clash, and-both}
 use Rattle.board.specs.declared.Answer.{Answer}
 use Rattle.board.specs.declared.Board.{Board}
 use Rattle.board.specs.declared.Duty.{Duty}
-use Rattle.board.specs.After.{did}
-use Rattle.board.specs.Green.{worldOf, permittedNow}
+use Rattle.board.specs.Green.{worldOf}
 use Rattle.board.specs.Numbers as answer
 use Rattle.board.specs.Open.{OpenWith}
 use Rattle.board.specs.Permitted.{heldIn}
 use Rattle.board.specs.View.{View, view}
-use Rattle.board.specs.Windows.{isOver, inWindow}
+use Rattle.board.specs.Windows.{inWindow}
 use Rattle.board.proofs.AnswersLaws.{NoneApplies, none-done}
 use Rattle.board.proofs.PoolLaws.{duty-window}
 use Rattle.board.proofs.SayingLaws.{ViewFits, view-saying}
@@ -37,7 +33,8 @@ use Rattle.promises.proofs.StaysGreen.{step-whole}
 -- the theory carries this order out on what the board says: the last minute of a duty is its end
 abbrev CarriedFrom : View → List Duty → Type 0
 CarriedFrom v order =
-    clock.CarriedOut (worldOf v) (λ d. d .start) (λ d. d .end) (v .clock) (heldIn (v .holdings)) (v .duties) order
+    clock.CarriedOut (worldOf v) (λ d. d .start) (λ d. d .end) (v .clock) (heldIn (v .holdings)) (v .duties)
+    order
 
 -- ---- one step
 
@@ -104,6 +101,7 @@ in-turn (d ∷ order) b w c =
           (left-goes-on b w d order c r left k),
     )
 
+-- In each order that the windows allow, every do is accepted and no duty is left, whatever keeps do's promise.
 pub all-done :
     (b : Board) → GoodAndGreen b → NoneOver b → (order : List Duty)
     → Order (worldOf (view b)) (view b .duties) order → DoneInTurn b order

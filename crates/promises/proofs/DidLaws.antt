@@ -1,16 +1,12 @@
--- A duty done, on a board that keeps the rules: the duty with its serial is that one, so the board after has the
--- holdings and the duties that the theory of orders says. Hence: green stays green.
+-- A duty done, on a board that keeps the rules: the duty with its serial is that one, so the board after has
+-- the holdings and the duties that the theory of orders says. Hence: green stays green.
 use mathlib.Core.Path.{_≡_, refl, sym, ap, _∙_}
 use mathlib.Core.Logic.{⊎-elim}
-use mathlib.Core.Bool.{true}
-use mathlib.Core.List.{List, [], _∷_}
 use mathlib.Core.Option.{some}
 use Prim.Native.Nat.{ℕ}
-use lib.Dec.{eqb}
 use native.Mathlib.Omega.{arith}
 use borrow.Author.Tests.{eqb-true, eq-eqb}
 use Rattle.orders.specs.Lists.{Mem, find}
-use Rattle.orders.specs.Orders as orders
 use Rattle.orders.specs.Orders.{Pool}
 use Rattle.orders.specs.Walks.{Next, without}
 use Rattle.orders.proofs.Build.{same-serial}
@@ -20,7 +16,7 @@ use Rattle.orders.proofs.Tests.{clash}
 use Rattle.board.specs.declared.Duty.{Duty}
 use Rattle.board.specs.After.{named, did}
 use Rattle.board.specs.Green.{Green, worldOf}
-use Rattle.board.specs.Permitted.{heldIn, changed}
+use Rattle.board.specs.Permitted.{heldIn}
 use Rattle.board.specs.View.{View}
 use Rattle.board.proofs.GoodLaws.{records→range}
 use Rattle.board.proofs.PoolLaws.{duties-pool}
@@ -63,4 +59,5 @@ module _ (v : View) (fits : ViewFits v) where
   did-green clock d n g =
       let left = without-left (worldOf v) (v .duties) d (pool .distinct) (n .open-d) in
       rw (did-held clock d (n .open-d))
-      (next-green (worldOf v) (v .duties) (without (worldOf v) d (v .duties)) d n left (heldIn (v .holdings)) g)
+      (next-green (worldOf v) (v .duties) (without (worldOf v) d (v .duties)) d n left
+      (heldIn (v .holdings)) g)

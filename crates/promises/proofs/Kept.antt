@@ -1,6 +1,6 @@
--- Every call on a live board has a promise of one shape, `Called`: its checks, what the board says after it, the serial
--- that it answers. Check has it too: the board after it is the board that it reads. So what holds over any calls is
--- stated once.
+-- Every call on a live board has a promise of one shape, `Called`: its checks, what the board says after it,
+-- the serial that it answers. Check has it too: the board after it is the one that it reads. So what holds over
+-- any calls is stated once.
 use mathlib.Core.Path.{_≡_, refl, sym, subst, _∙_}
 use mathlib.Core.List.{List, []}
 use Prim.Native.Nat.{ℕ}
@@ -83,11 +83,11 @@ kept-called b size (check before) r left after k =
       told = c .told;
     }
 
--- what holds of the board value left: accepted, no check applied and it says what the promise names; refused, it is
--- the one given
+-- what holds of the board value left: accepted, no check applied and it says what the promise names; refused,
+-- it is the one given
 module _
-    (checks : List Check) (b : Board) (v : View) (serial : ℕ) (before after : List ℕ) (r : Answer) (left : Board)
-    (refuses : Refusing checks) (c : Called checks b v serial before after r left)
+    (checks : List Check) (b : Board) (v : View) (serial : ℕ) (before after : List ℕ) (r : Answer)
+    (left : Board) (refuses : Refusing checks) (c : Called checks b v serial before after r left)
   where
     pub done→none : r .number ≡ answer.done → NoneApplies checks
     done→none e = done-none checks refuses (subst (Answers checks) e (c .number))

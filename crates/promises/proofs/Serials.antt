@@ -1,28 +1,26 @@
--- A serial is never given twice on one live board. The idea: the next serial never falls, every open serial is below
--- it, and an accepted admission answers it and raises it by one.
-use mathlib.Core.Path.{_≡_, refl, sym, ap, subst, _∙_}
+-- A serial is never given twice on one live board. The idea: the next serial never falls, every open serial is
+-- below it, and an accepted admission answers it and raises it by one.
+use mathlib.Core.Path.{_≡_, ap, _∙_}
 use mathlib.Core.Logic.{⊎-elim}
-use mathlib.Core.Bool.{Bool, true, false, cond}
 use mathlib.Core.List.{List, [], _∷_, _++_, List·Memᴰ·append-cases}
 use Prim.Native.Nat.{ℕ, _+_, _≤_, _<_}
 use native.Mathlib.Omega.{arith}
 use lib.Dec.{eqb}
-use borrow.Author.Tests.{eqb-true, eqb-false}
-use Rattle.orders.specs.Lists.{Mem, here, there, Pairwise}
+use borrow.Author.Tests.{eqb-true}
+use Rattle.orders.specs.Lists.{Mem, Pairwise}
 use Rattle.orders.proofs.Lists.{at-cons, pairwise-append}
 use Rattle.orders.proofs.Tests.{by-test}
 use Rattle.board.specs.declared.Answer.{Answer}
 use Rattle.board.specs.declared.Board.{Board}
-use Rattle.board.specs.declared.Duty.{Duty}
 use Rattle.board.specs.Called.{Called}
 use Rattle.board.specs.Numbers as answer
 use Rattle.board.specs.Saying.{boardSaying}
 use Rattle.board.specs.View.{View, view}
 use Rattle.board.proofs.AnswersLaws.{NoneApplies}
 use Rattle.board.proofs.GoodLaws.{good→records, records→range}
-use Rattle.board.proofs.SayingLaws.{ViewFits, view-saying}
+use Rattle.board.proofs.SayingLaws.{view-saying}
 use Rattle.promises.specs.Calls.{Call, admit, act, doDuty, withdraw, check, Keeps, Made, Calls}
-use Rattle.promises.specs.Given.{given, allGiven}
+use Rattle.promises.specs.Given.{given, allGiven, NeverTwice}
 use Rattle.promises.specs.GoodAndGreen.{Whole}
 use Rattle.promises.proofs.AfterCalls.{after-fits}
 use Rattle.promises.proofs.Kept.{checksOf, afterCall, serialOf, lent, refusing, kept-called, done→none}
@@ -68,8 +66,10 @@ then-between low mid high some more p q =
 module _ (b : Board) (w : Whole b) where
   -- the next serial of the board after an accepted call
   next-after :
-      (call : Call) → NoneApplies (checksOf b call) → boardSaying (afterCall b call) .next .0 ≡ afterCall b call .next
-  next-after call none = ap (λ (u : View). u .next) (view-saying (afterCall b call) (after-fits b w call none))
+      (call : Call) → NoneApplies (checksOf b call)
+      → boardSaying (afterCall b call) .next .0 ≡ afterCall b call .next
+  next-after call none =
+      ap (λ (u : View). u .next) (view-saying (afterCall b call) (after-fits b w call none))
 
   next-rises : (call : Call) → b .next .0 ≤ afterCall b call .next
   next-rises (admit before q) = omega arith
@@ -123,11 +123,7 @@ calls-give (m ∷ made) b left w (between, k, rest) =
     (call-gives b w (m .call) (m .answer) between (m .list) k)
     (calls-give made between left (step-whole b (m .call) (m .answer) between (m .list) k w) rest)
 
--- Each serial that is given is above every serial that was open at the start, and above every serial given before.
-pub record NeverTwice (b : Board) (made : List Made) : Type 0 where
-  pub above-open : (n : ℕ) → Mem n (allGiven made) → (d : Duty) → Mem d (view b .duties) → d .serial .0 < n
-  pub above-given : Pairwise (λ m n. m < n) (allGiven made)
-
+-- Over any calls, accepted or refused.
 pub never-twice : (made : List Made) (b left : Board) → Whole b → Calls b made left → NeverTwice b made
 never-twice made b left w calls =
     let gives = calls-give made b left w calls in

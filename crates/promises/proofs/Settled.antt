@@ -1,5 +1,5 @@
--- Two outcomes of one call that keep its promise are equal, but for the choice of failing order with 8: there number,
--- board, serial and the list beyond each order are settled. (Why that choice is free: docs/FAILING-ORDERS.md.)
+-- Two outcomes of one call that keep its promise are equal, but for the choice of failing order with 8: there
+-- number, board, serial and the list beyond each order are settled. (docs/FAILING-ORDERS.md: why it is free.)
 use mathlib.Core.Path.{_≡_, sym, ap, _∙_}
 use mathlib.Core.List.{List, []}
 use Prim.Native.Nat.{ℕ}
@@ -23,21 +23,8 @@ use Rattle.act.specs.ActsNow.{afterAct, actChecks}
 use Rattle.do_duty.specs.Does.{afterDo, doChecks}
 use Rattle.withdraw.specs.Withdraws.{afterWithdraw, withdrawChecks}
 use Rattle.promises.specs.Calls.{Call, admit, act, doDuty, withdraw, check, Keeps}
+use Rattle.promises.specs.Settled.{Settled}
 use Rattle.promises.proofs.Kept.{lent}
-
--- Two outcomes: the answers r and r′, the board values left, the lent list before and after each.
-pub record Settled (before after after′ : List ℕ) (r r′ : Answer) (left left′ : Board) : Type 0 where
-  pub number : r .number ≡ r′ .number
-  pub serial : r .serial .0 ≡ r′ .serial .0
-  pub board : left ≡ left′
-  -- without 8 the outcomes are equal
-  pub equal : (r .number ≡ answer.red → ⊥) → (r ≡ r′) × (after ≡ after′)
-  -- with 8 they are equal once the orders at the start of the lists are
-  pub chosen : take (r .length) after ≡ take (r′ .length) after′ → (r ≡ r′) × (after ≡ after′)
-  -- and beyond each order the list is as it was
-  pub beyond :
-      r .number ≡ answer.red
-      → (drop (r .length) after ≡ drop (r .length) before) × (drop (r′ .length) after′ ≡ drop (r′ .length) before)
 
 -- ---- the lent list
 
@@ -88,11 +75,13 @@ module _
         (λ t.
         let e = eqb-true (r .number) answer.done t in
         let one = p .accepted e in
-        let other = q .accepted (sym same-number ∙ e) in (one .0 ∙ sym (other .0), one .1 ∙ sym (other .1)))
+        let other = q .accepted (sym same-number ∙ e) in
+        (one .0 ∙ sym (other .0), one .1 ∙ sym (other .1)))
         (λ f.
         let d = eqb-false (r .number) answer.done f in
         let one = p .refused d in
-        let other = q .refused (λ e. d (same-number ∙ e)) in (one .0 ∙ sym (other .0), one .1 ∙ sym (other .1)))
+        let other = q .refused (λ e. d (same-number ∙ e)) in
+        (one .0 ∙ sym (other .0), one .1 ∙ sym (other .1)))
 
     pub called-settled : Settled before after after′ r r′ left left′
     called-settled =
@@ -102,17 +91,20 @@ module _
 -- Whatever two outcomes of one call keep its promise.
 pub call-settled :
     (b : Board) (call : Call) (after after′ : List ℕ) (r r′ : Answer) (left left′ : Board)
-    → Keeps b call r left after → Keeps b call r′ left′ after′ → Settled (lent call) after after′ r r′ left left′
+    → Keeps b call r left after → Keeps b call r′ left′ after′
+    → Settled (lent call) after after′ r r′ left left′
 call-settled b (admit before q) after after′ r r′ left left′ j k =
-    called-settled (admitChecks b (length before) q) b (afterAdmit b q) (b .next .0) before after after′ r r′ left
-    left′ j k
+    called-settled (admitChecks b (length before) q) b (afterAdmit b q) (b .next .0) before after after′ r r′
+    left left′ j k
 call-settled b (act before q) after after′ r r′ left left′ j k =
     called-settled (actChecks b (length before) q) b (afterAct b q) 0 before after after′ r r′ left left′ j k
 call-settled b (doDuty q) after after′ r r′ left left′ j k =
     rw (j .1, k .1) (called-settled (doChecks b q) b (afterDo b q) 0 [] [] [] r r′ left left′ (j .0) (k .0))
 call-settled b (withdraw before q) after after′ r r′ left left′ j k =
-    called-settled (withdrawChecks b (length before) q) b (afterWithdraw b q) 0 before after after′ r r′ left left′ j k
+    called-settled (withdrawChecks b (length before) q) b (afterWithdraw b q) 0 before after after′ r r′ left
+    left′ j k
 call-settled b (check before) after after′ r r′ left left′ j k =
-    let number = same-answer (checkChecks b (length before)) (r .number) (r′ .number) (j .0 .number) (k .0 .number) in
+    let checks = checkChecks b (length before) in
+    let number = same-answer checks (r .number) (r′ .number) (j .0 .number) (k .0 .number) in
     told-settled (view b) before after after′ r r′ left left′ (j .0 .told) (k .0 .told) number
     (j .0 .serial ∙ sym (k .0 .serial)) (j .1 ∙ sym (k .1))

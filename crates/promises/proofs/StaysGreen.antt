@@ -1,5 +1,6 @@
--- From a green board, any calls with any clocks leave it green by that definition. The idea: a refused call leaves the
--- board untouched; an accepted one leaves the board value that says what the promise names, and that is good and green.
+-- From a green board, any calls with any clocks leave it green by that definition. The idea: a refused call
+-- leaves the board untouched; an accepted one leaves the board value that says what the promise names, and
+-- that is good and green.
 use mathlib.Core.Path.{_≡_, sym, subst}
 use mathlib.Core.List.{List, [], _∷_}
 use Prim.Native.Nat.{ℕ}
@@ -16,7 +17,8 @@ use Rattle.calls.specs.Opens.{Opens}
 use Rattle.calls.proofs.Tick.{open-ticks, opened-right}
 use Rattle.promises.specs.Calls.{Call, Keeps, Made, Calls}
 use Rattle.promises.specs.GoodAndGreen.{Whole, GoodAndGreen}
-use Rattle.promises.proofs.Kept.{checksOf, afterCall, serialOf, lent, refusing, kept-called, either-way}
+use Rattle.promises.proofs.Kept.{checksOf, afterCall, serialOf, lent}
+use Rattle.promises.proofs.Kept.{refusing, kept-called, either-way}
 use Rattle.promises.proofs.AfterCalls.{after-fits, after-green}
 
 saying-whole : (v : View) → ViewFits v → Whole (boardSaying v)
