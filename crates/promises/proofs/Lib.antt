@@ -6,3 +6,4 @@ pub mod CarriedOut
 pub mod Denied
 pub mod Serials
 pub mod Settled
+pub mod Worthless
