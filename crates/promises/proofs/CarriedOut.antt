@@ -5,6 +5,7 @@ use mathlib.Core.Path.{_≡_, refl, sym, ap, subst, _∙_}
 use mathlib.Core.Bool.{true}
 use mathlib.Core.List.{List, [], _∷_}
 use native.Mathlib.Omega.{arith}
+use lib.Dec.{leb}
 use borrow.Author.Tests.{ltb-false, le-leb}
 use Rattle.orders.specs.Orders.{Order}
 use Rattle.orders.specs.Clock as clock
@@ -53,7 +54,10 @@ module _
         subst Holds (one-duty v fits (o .duty) d (o .open-duty) (c .3 .open-d) (o .has-serial)) (o .holds)
 
     in-window : inWindow (earliestDo b d .clock) d ≡ true
-    in-window = and-both _ _ (le-leb _ _ (c .1)) (le-leb _ _ (c .2))
+    in-window =
+        and-both (leb (d .start) (earliestDo b d .clock)) (leb (earliestDo b d .clock) (d .end))
+        (le-leb (d .start) (earliestDo b d .clock) (omega (arith, c .1, c .2)))
+        (le-leb (earliestDo b d .clock) (d .end) (omega (arith, c .1, c .2)))
 
     -- no check of do applies
     none-applies : NoneApplies (doChecks b (earliestDo b d))
@@ -110,4 +114,4 @@ all-done b g open-still order o =
     in-turn order b (g .whole)
     (carried-out (worldOf (view b)) (λ d. d .start) (λ d. d .end) order (b .clock) (heldIn (view b .holdings))
     (view b .duties) (pool (view b) fits) (g .green) (duty-window (view b) (fits .records))
-    (λ d m. ltb-false (d .end) (b .clock) (open-still d m)) o)
+    (λ d m. omega (arith, ltb-false (d .end) _ (open-still d m))) o)
