@@ -1,6 +1,6 @@
 -- If no open window is over, in each allowed order, each duty done at the earliest minute its window and the
--- clock permit, all are accepted and none is left. The idea: the theory carries the order out by the clock; at
--- each of its steps no check of do applies, and it goes on with the board that do's promise names.
+-- clock permit, all are accepted and none is left. The idea: the theory carries the order out by the clock;
+-- at each of its steps no check of do applies, and it goes on with the board that do's promise names.
 use mathlib.Core.Path.{_≡_, refl, sym, ap, subst, _∙_}
 use mathlib.Core.Bool.{true}
 use mathlib.Core.List.{List, [], _∷_}
@@ -105,7 +105,8 @@ in-turn (d ∷ order) b w c =
           (left-goes-on b w d order c r left k),
     )
 
--- In each order that the windows allow, every do is accepted and no duty is left, whatever keeps do's promise.
+-- If no open window is over, in each allowed order, each duty done at the earliest minute its window and the
+-- clock permit, all are accepted and none is left.
 pub all-done :
     (b : Board) → GoodAndGreen b → NoneOver b → (order : List Duty)
     → Order (worldOf (view b)) (view b .duties) order → DoneInTurn b order

@@ -1,6 +1,6 @@
 -- The tick agrees with that definition; red carries a true failing order; past the earlier checks a new duty,
 -- a withdrawal or a permitted act is denied exactly if the board after it would be red. The idea: one law for
--- every list of checks that ends with that of 8; a board that keeps the rules is green or red, and never both.
+-- every list of checks that ends with that of 8; a board that keeps the rules is green or red, never both.
 use mathlib.Core.Path.{_≡_}
 use mathlib.Core.Logic.{inl, inr}
 use mathlib.Core.Bool.{true}
@@ -63,7 +63,8 @@ module _
     judged earlier none a =
         by-the-last (past-first earlier (check answer.red (Red v) ∷ []) (r .number) none a)
 
--- ---- a new duty, a permitted act, a withdrawal
+-- ---- past the earlier checks, denied exactly if the board after it would be red: a new duty, a permitted
+-- act, a withdrawal
 
 module _ (b : Board) (size : Sized b) (before after : List ℕ) (r : Answer) (left : Board) where
   pub admit-judged :
@@ -87,10 +88,10 @@ module _ (b : Board) (size : Sized b) (before after : List ℕ) (r : Answer) (le
       → Withdraws b before q r left after → Judged (afterWithdraw b q) before after r
   withdraw-judged q none c =
       let fits = withdrawing.fits-after b size (length before) q none in
-      judged (afterWithdraw b q) (fits .records) before after r (c .told) (withdrawEarlier b (length before) q)
-      none (c .number)
+      judged (afterWithdraw b q) (fits .records) before after r (c .told)
+      (withdrawEarlier b (length before) q) none (c .number)
 
--- ---- the verdict alone, and a file
+-- ---- the tick agrees with the definition of green: the verdict alone, and a file
 
 pub check-judged :
     (b : Board) (before after : List ℕ) (r : Answer) → NoneApplies (checkEarlier b (length before))

@@ -1,6 +1,6 @@
 -- Every call on a live board has a promise of one shape, `Called`: its checks, what the board says after it,
--- the serial that it answers. Check has it too: the board after it is the one that it reads. So what holds over
--- any calls is stated once.
+-- the serial that it answers. Check has it too: the board after it is the one that it reads. So what holds
+-- over any calls is stated once.
 use mathlib.Core.Path.{_≡_, refl, sym, subst, _∙_}
 use mathlib.Core.List.{List, []}
 use Prim.Native.Nat.{ℕ}

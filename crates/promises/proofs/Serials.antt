@@ -1,5 +1,5 @@
--- A serial is never given twice on one live board. The idea: the next serial never falls, every open serial is
--- below it, and an accepted admission answers it and raises it by one.
+-- A serial is never given twice on one live board. The idea: the next serial never falls, every open serial
+-- is below it, and an accepted admission answers it and raises it by one.
 use mathlib.Core.Path.{_≡_, ap, _∙_}
 use mathlib.Core.Logic.{⊎-elim}
 use mathlib.Core.List.{List, [], _∷_, _++_, List·Memᴰ·append-cases}
@@ -123,7 +123,7 @@ calls-give (m ∷ made) b left w (between, k, rest) =
     (call-gives b w (m .call) (m .answer) between (m .list) k)
     (calls-give made between left (step-whole b (m .call) (m .answer) between (m .list) k w) rest)
 
--- Over any calls, accepted or refused.
+-- A serial is never given twice on one live board: over any calls, accepted or refused.
 pub never-twice : (made : List Made) (b left : Board) → Whole b → Calls b made left → NeverTwice b made
 never-twice made b left w calls =
     let gives = calls-give made b left w calls in

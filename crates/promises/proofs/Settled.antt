@@ -88,7 +88,8 @@ module _
         told-settled v before after after′ r r′ left left′ (p .told) (q .told) same-number (same-end .1)
         (same-end .0)
 
--- Whatever two outcomes of one call keep its promise.
+-- Two outcomes of one call that keep its promise are equal, except for the choice of failing order, free
+-- among true ones.
 pub call-settled :
     (b : Board) (call : Call) (after after′ : List ℕ) (r r′ : Answer) (left left′ : Board)
     → Keeps b call r left after → Keeps b call r′ left′ after′

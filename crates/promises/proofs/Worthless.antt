@@ -1,6 +1,7 @@
--- Worthless boards keep no promise. Whatever keeps check's promise answers each marked case by its verdict: so it
--- is not always red, not always green, and does not wave through the duties after the first (case 5). Whatever
--- keeps do's promise accepts the first duty of case 2, and whoever accepts a do has changed the board.
+-- Worthless boards keep no promise. Whatever keeps check's promise answers each marked case by its verdict:
+-- so it is not always red (case 2), not always green (case 3), and does not wave through the duties after the
+-- first (case 5). Whatever keeps do's promise accepts the first duty of case 2, and an accepted do has
+-- changed the board.
 use mathlib.Core.Path.{_≡_, refl, sym, ap, subst, _∙_}
 use mathlib.Core.Bool.{Bool, true, _&&_}
 use mathlib.Core.List.{List, [], _∷_}
@@ -16,7 +17,6 @@ use Rattle.orders.proofs.Tests.{and-left, and-right, clash, not-true}
 use Rattle.board.specs.declared.Answer.{Answer}
 use Rattle.board.specs.declared.Board.{Board}
 use Rattle.board.specs.declared.Counts.{Counts}
-use Rattle.board.specs.declared.Duty.{Duty}
 use Rattle.board.specs.After.{named}
 use Rattle.board.specs.Cases.{Verdict, green, red, Says, Row, cases, usual, nothing, G, U}
 use Rattle.board.specs.Good.{countsFit, recordsFit}
@@ -143,7 +143,10 @@ order2 =
     (record {
       every = λ d m. m;
       only = λ d m. m;
-      spaced = (λ y m. at-cons (λ q. rw q (λ e. omega arith, refl)) (λ n. elim n [ ]) m, (λ y m. elim m [ ], tt));
+      spaced = (
+        λ y m. at-cons (λ q. rw q (λ e. omega arith, refl)) (λ n. elim n [ ]) m,
+        (λ y m. elim m [ ], tt),
+      );
     })
 
 -- The first duty of case 2, done at its earliest minute, is accepted.

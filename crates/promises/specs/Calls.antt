@@ -1,5 +1,5 @@
--- Any calls on a live board, one after the other: any requests, clocks and lent lists, accepted or refused. Of
--- each outcome no more is known than that it keeps the call's promise.
+-- Any calls on a live board, one after the other: any requests, clocks and lent lists, accepted or refused.
+-- Of each outcome no more is known than that it keeps the call's promise.
 use mathlib.Core.Path.{_≡_}
 use mathlib.Core.List.{List, [], _∷_}
 use Prim.Native.Nat.{ℕ}

@@ -24,7 +24,8 @@ abbrev pub allGiven : List Made → List ℕ
 allGiven [] = []
 allGiven (m ∷ made) = given (m .call) (m .answer) ++ allGiven made
 
--- Each serial that is given is above every serial that was open at the start, and above every one given before.
+-- Each serial that is given is above every serial that was open at the start, and above every one that was
+-- given before.
 pub record NeverTwice (b : Board) (made : List Made) : Type 0 where
   pub above-open : (n : ℕ) → Mem n (allGiven made) → (d : Duty) → Mem d (view b .duties) → d .serial .0 < n
   pub above-given : Pairwise (λ m n. m < n) (allGiven made)

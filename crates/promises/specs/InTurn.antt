@@ -21,8 +21,8 @@ NoneOver b = (d : Duty) → Mem d (view b .duties) → isOver (b .clock) d ≡ f
 abbrev pub earliestDo : Board → Duty → AskDo
 earliestDo b d = record { serial = d .serial; clock = max (b .clock) (d .start) }
 
--- Whatever outcomes keep do's promise, one after the other: each is accepted, and no duty is left. So neither a
--- board that refuses every call nor one that accepts calls and changes nothing keeps the promise.
+-- Whatever outcomes keep do's promise, one after the other: each is accepted, and no duty is left. So neither
+-- a board that refuses every call nor one that accepts calls and changes nothing keeps the promise.
 abbrev pub DoneInTurn : Board → List Duty → Type 0
 DoneInTurn b [] = view b .duties ≡ []
 DoneInTurn b (d ∷ order) =

@@ -15,6 +15,7 @@ use Rattle.board.specs.Told.{OrderTold}
 use Rattle.board.specs.View.{View}
 use Rattle.file.specs.Reads.{readChecks}
 
+-- The answer r, with the lent list before and after, on the board v.
 pub record Judged (v : View) (before after : List ℕ) (r : Answer) : Type 0 where
   -- denied exactly if the board would be red, that is, if it is not green
   pub denied : (r .number ≡ answer.red) ↔ Red v
