@@ -9,11 +9,12 @@ use Rattle.board.specs.declared.Board.{Board}
 use Rattle.board.specs.After.{withSerial, admitted}
 use Rattle.board.specs.Answers.{Check, check}
 use Rattle.board.specs.Called.{Called}
-use Rattle.board.specs.Good.{good, windowFits}
+use Rattle.board.specs.Good.{good}
 use Rattle.board.specs.Green.{Red}
 use Rattle.board.specs.Limits.{maxDuties, maxNext}
 use Rattle.board.specs.Numbers as answer
 use Rattle.board.specs.View.{View, view}
+use Rattle.board.specs.Windows.{windowFits}
 use Rattle.requests.specs.declared.AskAdmit.{AskAdmit}
 use Rattle.requests.specs.Requests.{doingFits, asked}
 

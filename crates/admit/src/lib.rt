@@ -53,7 +53,7 @@ fn refusal(b: Board, room: usize, q: AskAdmit) -> u8
     }
     let next = b.next;
     let d = duty_asked(q, next);
-    if !records::window_fits(d) {
+    if !windows::window_fits(d) {
         return Answer::WINDOW;
     }
     if counts.duties as usize == Board::DUTIES {

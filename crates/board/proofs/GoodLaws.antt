@@ -10,23 +10,8 @@ use Rattle.orders.proofs.Lists.{all-mem, all-in}
 use Rattle.board.specs.declared.Board.{Board}
 use Rattle.board.specs.declared.Duty.{Duty}
 use Rattle.board.specs.View.{View, view}
-use Rattle.board.specs.Good.{
-  good,
-  setFits,
-  permissionFits,
-  ruleFits,
-  dutyFits,
-  windowFits,
-  permissionBelow,
-  ruleBelow,
-  dutyBelow,
-  holdingsFit,
-  permissionsFit,
-  rulesFit,
-  dutiesFit,
-  recordsFit,
-  fillerBeyond,
-}
+use Rattle.board.specs.Good.{good, setFits, permissionFits, ruleFits, dutyFits, permissionBelow, ruleBelow, dutyBelow, holdingsFit, permissionsFit, rulesFit, dutiesFit, recordsFit, fillerBeyond}
+use Rattle.board.specs.Windows.{windowFits}
 use Rattle.board.proofs.InRange.{
   CountsInRange,
   counts→range,

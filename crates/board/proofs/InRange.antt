@@ -19,7 +19,8 @@ use Rattle.board.specs.Limits.{
   actions,
   objects,
 }
-use Rattle.board.specs.Good.{countsFit, permissionFits, ruleFits, whatFits, dutyFits, windowFits}
+use Rattle.board.specs.Good.{countsFit, permissionFits, ruleFits, whatFits, dutyFits}
+use Rattle.board.specs.Windows.{windowFits}
 
 -- ---- counts
 

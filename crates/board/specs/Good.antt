@@ -24,6 +24,7 @@ use Rattle.board.specs.Limits.{
   objects,
 }
 use Rattle.board.specs.View.{View, view}
+use Rattle.board.specs.Windows.{windowFits}
 
 -- ---- counts
 
@@ -62,10 +63,6 @@ abbrev pub dutyFits : ℕ → ℕ → ℕ → Duty → Bool
 dutyFits users roles next d =
     ltb 0 (d .serial .0)
     && (ltb (d .serial .0) next && (ltb (d .doer) users && whatFits users roles (d .what)))
-
--- the start is not after the end
-abbrev pub windowFits : Duty → Bool
-windowFits d = leb (d .start) (d .end)
 
 -- by the first number, then by the second
 abbrev pub pairBelow : ℕ → ℕ → ℕ → ℕ → Bool

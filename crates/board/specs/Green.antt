@@ -11,8 +11,9 @@ use Rattle.board.specs.declared.Duty.{Duty}
 use Rattle.board.specs.declared.Permission.{Permission}
 use Rattle.board.specs.declared.Rule.{Rule}
 use Rattle.board.specs.declared.What.{What}
-use Rattle.board.specs.Permitted.{Holding, sameHolding, heldIn, askedFor, needs, effectOf, whollyBefore}
+use Rattle.board.specs.Permitted.{Holding, sameHolding, heldIn, askedFor, needs, effectOf}
 use Rattle.board.specs.View.{View}
+use Rattle.board.specs.Windows.{whollyBefore}
 
 -- duties under these permissions and rules
 abbrev pub dutiesUnder : List Permission → List Rule → Duties

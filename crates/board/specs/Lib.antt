@@ -1,9 +1,9 @@
 pub mod Limits
 pub mod Filler
 pub mod View
+pub mod Windows
 pub mod Good
 pub mod Permitted
-pub mod Windows
 pub mod Doing
 pub mod Green
 pub mod Sentences

@@ -4,13 +4,12 @@ use mathlib.Core.Bool.{Bool, true, false, _&&_}
 use mathlib.Core.Option.{Option, none, some}
 use mathlib.Core.List.{List, [], _∷_, _++_, map}
 use Prim.Native.Nat.{ℕ, zero, suc}
-use lib.Dec.{eqb, ltb}
+use lib.Dec.{eqb}
 use lib.ListN.{getD, set}
 use Rattle.orders.specs.Lists.{keep, find}
 use Rattle.roles.specs.Roles.{inSet, withRole, withoutRole}
 use Rattle.board.specs.declared.Asked.{Asked}
 use Rattle.board.specs.declared.Asked.the-variants.{Unruled, Role, Meets}
-use Rattle.board.specs.declared.Duty.{Duty}
 use Rattle.board.specs.declared.Permission.{Permission}
 use Rattle.board.specs.declared.Rule.{Rule}
 use Rattle.board.specs.declared.What.{What}
@@ -77,7 +76,7 @@ needs doer (Meets target rule) =
     (((doer, rule .actor), true)
     ∷ (each true target (rolesIn (rule .wanted)) ++ each false target (rolesIn (rule .barred))))
 
--- ---- what is changed, and windows
+-- ---- what is changed
 
 -- the holding that is set, and to what; a use changes no holding
 abbrev pub effectOf : What → Option (Holding × Bool)
@@ -90,7 +89,3 @@ abbrev pub changed : List ℕ → What → List ℕ
 changed sets (Grant target role) = set sets target (withRole (getD sets target 0) role)
 changed sets (Revoke target role) = set sets target (withoutRole (getD sets target 0) role)
 changed sets (Use action object) = sets
-
--- the end of b is less than the start of c
-abbrev pub whollyBefore : Duty → Duty → Bool
-whollyBefore b c = ltb (b .end) (c .start)

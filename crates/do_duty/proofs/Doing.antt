@@ -23,10 +23,9 @@ use Rattle.board.specs.Good.{good, whatFits}
 use Rattle.board.specs.Green.{worldOf, permittedNow}
 use Rattle.board.specs.Numbers as answer
 use Rattle.board.specs.Open.{NotOpen, OpenWith}
-use Rattle.board.specs.Permitted.{whollyBefore}
 use Rattle.board.specs.Saying.{boardSaying}
 use Rattle.board.specs.View.{View, view}
-use Rattle.board.specs.Windows.{inWindow}
+use Rattle.board.specs.Windows.{whollyBefore, inWindow}
 use Rattle.board.proofs.AnswersLaws.{NoneApplies, done-none, refused-first, then-second, never-answered}
 use Rattle.board.proofs.GoodLaws.{good→records, records→range}
 use Rattle.board.proofs.PoolLaws.{duties-pool}

@@ -14,9 +14,8 @@ use Rattle.board.specs.Good.{good}
 use Rattle.board.specs.Green.{permittedNow}
 use Rattle.board.specs.Numbers as answer
 use Rattle.board.specs.Open.{NotOpen, OpenWith}
-use Rattle.board.specs.Permitted.{whollyBefore}
 use Rattle.board.specs.View.{View, view}
-use Rattle.board.specs.Windows.{inWindow}
+use Rattle.board.specs.Windows.{whollyBefore, inWindow}
 use Rattle.requests.specs.declared.AskDo.{AskDo}
 
 -- some open duty is wholly before d

@@ -31,14 +31,14 @@ pub(crate) fn low(number: u32) -> u8 {
 }
 
 // Let the byte at a place be the lowest byte of a number.
-fn put_byte(s: &mut [u8], at: usize, number: u32) {
+pub(crate) fn put_byte(s: &mut [u8], at: usize, number: u32) {
     if at < s.len() {
         s[at] = low(number);
     }
 }
 
 // The lesser of two.
-fn lesser(a: usize, b: usize) -> usize
+pub(crate) fn lesser(a: usize, b: usize) -> usize
     ensures { λ r. ⌜ r ≤ b ⌝ }
 {
     if a < b { a } else { b }
@@ -55,4 +55,9 @@ pub(crate) fn put_record(s: &mut [u8], part: u32, offset: u32, halves: &[u32]) {
         put_byte(s, first + 2 * i + 1, half / 256);
         i += 1;
     }
+}
+
+// Put a number of four bytes, so far into a part of the file.
+pub(crate) fn put_four(s: &mut [u8], part: u32, offset: u32, number: u32) {
+    put_record(s, part, offset, &[number % 65536, number / 65536]);
 }

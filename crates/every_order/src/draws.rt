@@ -1,26 +1,16 @@
-// Random numbers from a seed, the same at each run.
+// Random numbers, the same at each run: each board has rows of eight of them.
 use crate::bytes::low;
 
-// The next seed.
-fn next(seed: u64) -> u64 {
-    (seed % 4294967296 * 1664525 + 1013904223) % 4294967296
+// The bits of a number stirred.
+fn stirred(number: u64) -> u64 {
+    let x = number % 4294967296;
+    (x ^ (x / 65536)) % 4294967296 * 73244475 % 4294967296
 }
 
-// The high half of a seed, since its low bits are hardly random.
-fn high(seed: u64) -> u32 {
-    (seed / 65536 % 65536) as u32
-}
-
-// Fill a list with random numbers, and answer the seed for those after them.
-pub(crate) fn fill(list: &mut [u32], seed: u64) -> u64 {
-    let mut now = seed;
-    let mut i: usize = 0;
-    while i < list.len() {
-        now = next(now);
-        list[i] = high(now);
-        i += 1;
-    }
-    now
+// The random number of a board in a row and a column.
+fn number(board: u32, row: u32, column: u32) -> u32 {
+    let place = 2048 * (board as u64) + 8 * (row as u64) + column as u64;
+    (stirred(stirred(stirred(place))) / 65536 % 65536) as u32
 }
 
 // What a list has at an index, 0 past its end.
@@ -28,11 +18,17 @@ pub(crate) fn entry(list: &[u32], i: usize) -> u32 {
     if i < list.len() { list[i] } else { 0 }
 }
 
-// One of the numbers below a bound, by a random number in a row of eight.
-pub(crate) fn draw(draws: &[u32], row: u32, column: u32, bound: u8) -> u8 {
-    if bound == 0 {
-        return 0;
-    }
-    let at = 8 * (row as usize) + column as usize;
-    low(entry(draws, at) % (bound as u32))
+// A number brought below a bound.
+pub(crate) fn below(number: u32, bound: u32) -> u32 {
+    if bound == 0 { 0 } else { number % bound }
+}
+
+// One of the numbers below a bound.
+pub(crate) fn draw(board: u32, row: u32, column: u32, bound: u8) -> u8 {
+    low(below(number(board, row, column), bound as u32))
+}
+
+// A random number of four bytes, by a column and another far from it.
+pub(crate) fn draw_four(board: u32, row: u32, column: u32) -> u32 {
+    number(board, row, column) % 65536 * 65536 + number(board, row, column % 8 + 1024) % 65536
 }

@@ -1,177 +1,226 @@
-// An independent check of the verdict: small random boards, each as the bytes of its file. Every allowed
-// order of each is walked by code that shares nothing with the board's, and the board's answer on the same
-// bytes is compared with what was met.
+// An independent check of reading and verdict: small random boards, each as the bytes of its file, as made
+// and then damaged. Each file is read and every allowed order walked by code that shares nothing with the
+// board's, and the board's answer on the same bytes is compared with what was met.
 mod bytes;
+mod damage;
 mod draws;
 mod make;
 mod order;
+mod parts;
+mod reader;
 mod rules;
+mod says;
+mod tally;
 mod walk;
 
-use bytes::four;
-use draws::fill;
+use board::Board;
+use bytes::lesser;
+use damage::damage;
 use make::make;
 use order::is_failing;
 use order::is_untouched;
+use order::places_differ;
+use reader::refusal;
+use rules::BY_PLACE;
+use rules::BY_STARTS;
+use rules::ON_DOER;
+use rules::REVOKED_EARLIER;
+use rules::TOUCHING;
+use rules::TRUE_RULES;
+use rules::UNBARRED;
+use rules::only;
+use says::is_smallest;
+use says::says;
+use tally::Outcome;
+use tally::Tally;
+use tally::counted;
+use tally::line;
+use tally::nothing;
+use tally::print_damaged;
+use tally::print_made;
+use tally::print_refusals;
+use tally::print_shortcuts;
 use walk::plus;
 use walk::walk;
-ghost use Prim.Native.Nat.{_≤_};
-ghost use lib.ListN.{length};
 
 // How many boards are made, and what stands in the lent list before a call: no serial.
 const BOARDS: u32 = 10000;
 
 const MARK: u32 = 4294967295;
 
-// What the board told: the answer's number, its serial, and the length of the failing order.
+// ---- what the program finds
+
+// The number of a file, how many orders were walked, and the set of shortcuts that give another verdict.
+struct Found {
+    number: u8,
+    orders: u32,
+    misled: u32,
+}
+
+// The set of a shortcut, if its verdict is not this one.
+fn misled_by(s: &[u8], red: bool, shortcut: u8) -> u32 {
+    let met = walk(s, shortcut);
+    if (met.stuck != 0) != red {
+        only(shortcut as u32)
+    } else {
+        0
+    }
+}
+
+// The shortcuts whose verdict is not this one.
+fn misled(s: &[u8], red: bool) -> u32 {
+    misled_by(s, red, BY_STARTS)
+        | misled_by(s, red, REVOKED_EARLIER)
+        | misled_by(s, red, TOUCHING)
+        | misled_by(s, red, UNBARRED)
+        | misled_by(s, red, ON_DOER)
+}
+
+// Read a file and walk its orders.
+fn find(s: &[u8]) -> Found {
+    let number = refusal(s);
+    if number != 0 {
+        return Found {
+            number,
+            orders: 0,
+            misled: 0,
+        };
+    }
+    let met = walk(s, TRUE_RULES);
+    let red = met.stuck != 0;
+    Found {
+        number: if red { 8 } else { 0 },
+        orders: met.orders,
+        misled: misled(s, red),
+    }
+}
+
+// ---- what the board tells
+
+// The answer's number, its serial, the length of the failing order, and whether the board given back is
+// right.
 struct Told {
     number: u8,
     serial: u32,
     length: usize,
+    board: bool,
 }
 
-// Ask the board about the bytes of a file.
-fn ask(s: &[u8], list: &mut [u32]) -> Told {
+// Whether a board is what a file with this number is to give: what it says, or the smallest.
+fn is_right_board(s: &[u8], number: u8, b: Board) -> bool {
+    if number == 0 {
+        says(s, b)
+    } else {
+        is_smallest(b)
+    }
+}
+
+// Ask the board about a file that is to have this number.
+fn ask(s: &[u8], number: u8, list: &mut [u32]) -> Told {
     let opened = calls::open(s, list);
     let answer = opened.answer;
     let serial = answer.serial;
+    let b = opened.board;
     Told {
         number: answer.number,
         serial: serial.0,
         length: answer.length,
+        board: is_right_board(s, number, b),
     }
 }
 
-// ---- one board
+// ---- one file
 
-// Whether the answer is right for a board whose walk got stuck so often.
-fn is_right(s: &[u8], stuck: u32, told: Told, list: &[u32]) -> bool {
+// Whether the answer is right for a file that is to have this number.
+fn is_right(s: &[u8], number: u8, told: Told, list: &[u32]) -> bool {
     let length = told.length;
+    let order = if number == 8 {
+        is_failing(s, list, length)
+    } else {
+        length == 0
+    };
     let rest = is_untouched(list, length, MARK);
-    let green = (told.number == 0) & (stuck == 0) & (length == 0);
-    let red = (told.number == 8) & (stuck != 0) & is_failing(s, list, length);
-    (green | red) & rest & (told.serial == 0)
+    (told.number == number) & order & rest & (told.serial == 0) & told.board
 }
 
-// What was met on a board.
-struct Outcome {
-    orders: u32,
-    red: bool,
-    length: usize,
-    right: bool,
-}
-
-// Walk a board file, ask the board about it, and compare.
+// Read and walk a file, ask the board about it, and compare.
 fn compared(s: &[u8]) -> Outcome {
-    let met = walk(s);
+    let found = find(s);
     let mut list = [MARK; 128];
-    let told = ask(s, &mut list);
-    let right = is_right(s, met.stuck, told, &list);
+    let told = ask(s, found.number, &mut list);
+    let places = if places_differ(s, &list, told.length) {
+        only(BY_PLACE as u32)
+    } else {
+        0
+    };
     Outcome {
-        orders: met.orders,
-        red: met.stuck != 0,
-        length: told.length,
-        right,
+        number: found.number,
+        orders: found.orders,
+        length: lesser(told.length, 128) as u32,
+        misled: found.misled | places,
+        right: is_right(s, found.number, told, &list),
     }
 }
 
-// How many bytes of a buffer the file at its start takes.
-fn total(s: &[u8]) -> usize
-    ensures { λ r. ⌜ r ≤ length (now (s .entry)) ⌝ }
-{
-    let n = four(s, 0, 36) as usize;
-    if n <= s.len() { n } else { s.len() }
-}
-
-// The same for the file at the start of a buffer.
-fn compared_in(buffer: &[u8]) -> Outcome {
-    let n = total(buffer);
+// The same for the file in the first bytes of a buffer, so many.
+fn compared_in(buffer: &[u8], length: u32) -> Outcome {
+    let n = lesser(length as usize, buffer.len());
     compared(&buffer[0..n])
 }
 
-// The same for a board made from random numbers.
-fn compared_by(draws: &[u32]) -> Outcome {
-    let mut buffer = [0u8; 512];
-    make(&mut buffer, draws);
-    compared_in(&buffer)
+// ---- all files
+
+// The counts of the boards as made, and of the damaged files.
+struct Tallies {
+    made: Tally,
+    damaged: Tally,
 }
 
-// ---- all boards
-
-// The counts so far.
-struct Tally {
-    green: u32,
-    red: u32,
-    orders: u32,
-    longest: usize,
-    wrong: u32,
-}
-
-// One more where a test holds.
-fn one_if(test: bool) -> u32 {
-    if test { 1 } else { 0 }
-}
-
-// The greater of two.
-fn greater(a: usize, b: usize) -> usize {
-    if a < b { b } else { a }
-}
-
-// The counts with one more board.
-fn counted(t: Tally, o: Outcome) -> Tally {
-    Tally {
-        green: plus(t.green, one_if(!o.red)),
-        red: plus(t.red, one_if(o.red)),
-        orders: plus(t.orders, o.orders),
-        longest: greater(t.longest, o.length),
-        wrong: plus(t.wrong, one_if(!o.right)),
+// Name the board, if the answer on one of its files is wrong and few were before.
+fn report(o: Outcome, t: Tally, board: u32) {
+    if !o.right & (t.wrong < 10) {
+        line(b"wrong at board", board);
     }
 }
 
-// A line with a name and a number.
-fn line(name: &[u8], number: u64) {
-    io::write_all(1, name);
-    io::write_all(1, b" ");
-    io::print_decimal(1, number);
-    io::write_all(1, b"\n");
-}
-
-// Name the board, if its answer is wrong and few were before.
-fn report(o: Outcome, t: Tally) {
-    if !o.right & (t.wrong < 10) {
-        let board = plus(plus(t.green, t.red), 1);
-        line(b"wrong at board", board as u64);
+// The counts with one more board, made from its random numbers, and then damaged.
+fn with_board(t: Tallies, board: u32) -> Tallies {
+    let mut buffer = [0u8; 640];
+    let length = make(&mut buffer, board);
+    let as_made = compared_in(&buffer, length);
+    let length_then = damage(&mut buffer, board, length);
+    let as_damaged = compared_in(&buffer, length_then);
+    let made = t.made;
+    let damaged = t.damaged;
+    report(as_made, made, board);
+    report(as_damaged, damaged, board);
+    Tallies {
+        made: counted(made, as_made),
+        damaged: counted(damaged, as_damaged),
     }
 }
 
 // All boards in turn.
-fn all() -> Tally {
-    let mut tally = Tally {
-        green: 0,
-        red: 0,
-        orders: 0,
-        longest: 0,
-        wrong: 0,
-    };
-    let mut seed: u64 = 1;
-    let mut left: u32 = BOARDS;
-    while 0 < left {
-        let mut draws = [0u32; 776];
-        seed = fill(&mut draws, seed);
-        let outcome = compared_by(&draws);
-        report(outcome, tally);
-        tally = counted(tally, outcome);
-        left -= 1;
+fn all() -> Tallies {
+    let made = nothing();
+    let damaged = nothing();
+    let mut tallies = Tallies { made, damaged };
+    let mut board: u32 = 0;
+    while board < BOARDS {
+        board += 1;
+        tallies = with_board(tallies, board);
     }
-    tally
+    tallies
 }
 
 fn main() {
     let t = all();
-    line(b"boards", BOARDS as u64);
-    line(b"green", t.green as u64);
-    line(b"red", t.red as u64);
-    line(b"orders walked", t.orders as u64);
-    line(b"longest failing order", t.longest as u64);
-    line(b"disagreements", t.wrong as u64);
+    let made = t.made;
+    let damaged = t.damaged;
+    line(b"boards", BOARDS);
+    print_made(made);
+    print_shortcuts(made);
+    print_damaged(damaged);
+    print_refusals(damaged);
+    line(b"disagreements", plus(made.wrong, damaged.wrong));
 }

@@ -1,4 +1,4 @@
-// The walk of every allowed order of a small board.
+// The walk of every allowed order of a small board, by the true rules or by a shortcut.
 use crate::bytes::two;
 use crate::rules::Point;
 use crate::rules::may_come_next;
@@ -31,7 +31,7 @@ fn both(a: Met, b: Met) -> Met {
 
 // Walk every allowed order from a point with so many duties left: do each duty that may come next and then
 // walk the rest in the same way. An order that gets stuck is not followed further.
-fn walk_from(s: &[u8], point: Point, left: u8) -> Met {
+fn walk_from(s: &[u8], by: u8, point: Point, left: u8) -> Met {
     if left == 0 {
         return Met {
             orders: 1,
@@ -44,13 +44,13 @@ fn walk_from(s: &[u8], point: Point, left: u8) -> Met {
     };
     let mut duty: u8 = 0;
     while duty < 6 {
-        if may_come_next(s, point, duty) {
+        if may_come_next(s, by, point.done, duty) {
             let mut more = Met {
                 orders: 1,
                 stuck: 1,
             };
-            if permitted_at(s, point, duty) {
-                more = walk_from(s, next(s, point, duty), left - 1);
+            if permitted_at(s, by, point, duty) {
+                more = walk_from(s, by, next(s, point, duty), left - 1);
             }
             met = both(met, more);
         }
@@ -60,10 +60,10 @@ fn walk_from(s: &[u8], point: Point, left: u8) -> Met {
 }
 
 // Walk every allowed order of a board file with at most 6 duties.
-pub(crate) fn walk(s: &[u8]) -> Met {
+pub(crate) fn walk(s: &[u8], by: u8) -> Met {
     let count = two(s, 0, 10);
     if count < 7 {
-        walk_from(s, start(s), count as u8)
+        walk_from(s, by, start(s), count as u8)
     } else {
         Met {
             orders: 0,

@@ -12,18 +12,19 @@ use borrow.Author.Tests.{eqb-true}
 use Rattle.orders.proofs.Tests.{and-left, and-right, and-both, is-true}
 use Rattle.board.specs.declared.Duty.{Duty}
 use Rattle.board.specs.Filler.{noPermission, noRule, noDuty, Sized}
-use Rattle.board.specs.Good.{good, countsFit, setFits, permissionFits, ruleFits, dutyFits, windowFits}
+use Rattle.board.specs.Good.{good, countsFit, setFits, permissionFits, ruleFits, dutyFits}
 use Rattle.board.specs.Good.{permissionBelow, ruleBelow, dutyBelow}
 use Rattle.board.specs.Good.{holdingsFit, permissionsFit, rulesFit, dutiesFit, recordsFit}
 use Rattle.board.specs.Limits.{maxUsers, maxPermissions, maxRules, maxDuties}
 use Rattle.board.specs.Permitted.{below}
 use Rattle.board.specs.View.{View, view}
+use Rattle.board.specs.Windows.{windowFits}
 use Rattle.board.proofs.AnswersLaws.{Refusing, NoneApplies, none-done, none-first, none-second}
 use Rattle.board.proofs.InRange.{CountsInRange, counts→range}
 use Rattle.board.proofs.FillerLaws.{FillerBeyond, beyond→filler}
 use Rattle.board.proofs.GoodLaws.{parts→good}
 use Rattle.file.specs.Layout.{headerSize, countsOf, clockOf, nextOf, statedTotal, totalOf, laidOut}
-use Rattle.file.specs.Records.{holdingAt, permissionAt, ruleAt, ruleSpare, dutyAt, secondFits}
+use Rattle.file.specs.Records.{holdingAt, permissionAt, ruleAt, ruleSpare, dutyAt, secondFitsAt}
 use Rattle.file.specs.Records.{faultOf, isAbove, firstFault}
 use Rattle.file.specs.Reads.{headerChecks, recordChecks, readChecks, boardOf}
 use Rattle.file.proofs.FirstFault.{NoFault, no-fault, fault-answers}
@@ -119,7 +120,7 @@ module _ (s : List ℕ) (none : NoFault s) where
   duties-fit =
       part-fits (dutyAt s) dutyBelow (λ d. fits d && windowFits d) (countsOf s .duties)
       (λ i h.
-      faultless (fits (dutyAt s i) && secondFits s i) (windowFits (dutyAt s i))
+      faultless (fits (dutyAt s i) && secondFitsAt s i) (windowFits (dutyAt s i))
       (isAbove dutyBelow (dutyAt s) i) (none .duties i h) (λ f w a. (search (and-both, and-left), a)))
     where
       fits : Duty → Bool

@@ -16,10 +16,11 @@ use Rattle.board.specs.Answers.{check, Answers}
 use Rattle.board.specs.Good as g
 use Rattle.board.specs.Numbers as answer
 use Rattle.board.specs.Permitted.{below}
+use Rattle.board.specs.Windows.{windowFits}
 use Rattle.file.specs.Layout.{countsOf, nextOf}
 use Rattle.file.specs.Parts.{sizeOf, faultAt}
 use Rattle.file.specs.Reads.{recordChecks}
-use Rattle.file.specs.Records.{holdingAt, permissionAt, ruleAt, ruleSpare, dutyAt, secondFits, isAbove}
+use Rattle.file.specs.Records.{holdingAt, permissionAt, ruleAt, ruleSpare, dutyAt, secondFitsAt, isAbove}
 use Rattle.file.specs.Records.{holdingFault, permissionFault, ruleFault, dutyFault}
 use Rattle.file.specs.Records.{faultOf, faultNumbers, faults, orElse, firstOf, firstFault}
 
@@ -151,8 +152,8 @@ module _ (s : List ℕ) where
       (cond-keeps Known (eqb part 2)
       (fault-known (g.ruleFits (n .roles) (ruleAt s i) && eqb (ruleSpare s i) 0) true
       (isAbove g.ruleBelow (ruleAt s) i))
-      (fault-known (g.dutyFits (n .users) (n .roles) (nextOf s) (dutyAt s i) && secondFits s i)
-      (g.windowFits (dutyAt s i)) (isAbove g.dutyBelow (dutyAt s) i))))
+      (fault-known (g.dutyFits (n .users) (n .roles) (nextOf s) (dutyAt s i) && secondFitsAt s i)
+      (windowFits (dutyAt s i)) (isAbove g.dutyBelow (dutyAt s) i))))
 
   first-known : Known (firstFault s)
   first-known =

@@ -8,11 +8,11 @@ use lib.Dec.{eqb}
 use Rattle.board.specs.declared.Duty.{Duty}
 use Rattle.board.specs.declared.Permission.{Permission}
 use Rattle.board.specs.declared.Rule.{Rule}
-use Rattle.board.specs.declared.What.{What}
-use Rattle.board.specs.declared.What.the-variants.{Grant, Revoke, Use}
+use Rattle.board.specs.Doing.{whatOf, secondFits}
 use Rattle.board.specs.Good as g
 use Rattle.board.specs.Numbers as answer
 use Rattle.board.specs.Permitted.{below}
+use Rattle.board.specs.Windows.{windowFits}
 use Rattle.file.specs.Bytes.{two, four}
 use Rattle.file.specs.Layout.{countsOf, nextOf, holdingsFrom, permissionsFrom, rulesFrom, dutiesFrom}
 use Rattle.file.specs.Layout.{holdingSize, permissionSize, ruleSize, dutySize}
@@ -45,12 +45,6 @@ ruleAt s i =
 abbrev pub ruleSpare : List ℕ → ℕ → ℕ
 ruleSpare s i = two s (ruleFrom s i + 6)
 
--- action 0 is a grant and 1 a revoke, of the role `second` for the target `first`; else a use of the object
--- `first`
-abbrev pub whatOf : ℕ → ℕ → ℕ → What
-whatOf action first second =
-    cond (eqb action 0) (Grant first second) (cond (eqb action 1) (Revoke first second) (Use action first))
-
 abbrev pub dutyFrom : List ℕ → ℕ → ℕ
 dutyFrom s i = dutiesFrom (countsOf s) + i * dutySize
 
@@ -66,10 +60,8 @@ dutyAt s i =
     }
 
 -- for a use, second is 0
-abbrev pub secondFits : List ℕ → ℕ → Bool
-secondFits s i =
-    (eqb (two s (dutyFrom s i + 6)) 0 || eqb (two s (dutyFrom s i + 6)) 1)
-    || eqb (two s (dutyFrom s i + 10)) 0
+abbrev pub secondFitsAt : List ℕ → ℕ → Bool
+secondFitsAt s i = secondFits (two s (dutyFrom s i + 6)) (two s (dutyFrom s i + 10))
 
 -- ---- the fault of one record
 
@@ -100,8 +92,8 @@ ruleFault s i =
 
 abbrev pub dutyFault : List ℕ → ℕ → ℕ
 dutyFault s i =
-    faultOf (g.dutyFits (countsOf s .users) (countsOf s .roles) (nextOf s) (dutyAt s i) && secondFits s i)
-    (g.windowFits (dutyAt s i)) (isAbove g.dutyBelow (dutyAt s) i)
+    faultOf (g.dutyFits (countsOf s .users) (countsOf s .roles) (nextOf s) (dutyAt s i) && secondFitsAt s i)
+    (windowFits (dutyAt s i)) (isAbove g.dutyBelow (dutyAt s) i)
 
 -- ---- the first faulty record
 

@@ -84,7 +84,7 @@ pub(crate) fn duty_fault(s: &[u8], counts: Counts, i: usize) -> u8
     let d = duty_at(s, counts, i);
     let next = next_of(s);
     let fits = records::duty_fits(d, counts.users, counts.roles, next) & second_fits(s, counts, i);
-    let window = records::window_fits(d);
+    let window = windows::window_fits(d);
     if i == 0 {
         return fault_of(fits, window, true);
     }

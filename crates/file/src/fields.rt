@@ -7,14 +7,13 @@ use board::Duty;
 use board::Permission;
 use board::Rule;
 use board::Serial;
-use board::What;
 ghost use mathlib.Core.Path.{_≡_};
 ghost use Prim.Native.Nat.{_+_, _*_, _≤_};
 ghost use lib.ListN.{length};
 ghost use Rattle.file.specs.Layout.{countsOf, holdingsFrom, permissionsFrom, rulesFrom, dutiesFrom};
 ghost use Rattle.file.specs.Layout.{holdingSize, permissionSize, ruleSize, dutySize};
 ghost use Rattle.file.specs.Records.{holdingAt, permissionAt, ruleAt, ruleSpare};
-ghost use Rattle.file.specs.Records.{whatOf, dutyAt, secondFits};
+ghost use Rattle.file.specs.Records.{dutyAt, secondFitsAt};
 
 // The set of roles of the user of this number.
 pub(crate) fn holding_at(s: &[u8], i: usize) -> u32
@@ -74,28 +73,6 @@ pub(crate) fn rule_spare(s: &[u8], counts: Counts, i: usize) -> u16
     )
 }
 
-// What is to be done, by a record's action, first and second.
-fn what_of(action: u16, first: u16, second: u16) -> What
-    ensures { λ r. ⌜ r ≡ whatOf action first second ⌝ }
-{
-    if action == 0 {
-        return What::Grant {
-            target: first,
-            role: second,
-        };
-    }
-    if action == 1 {
-        return What::Revoke {
-            target: first,
-            role: second,
-        };
-    }
-    What::Use {
-        action,
-        object: first,
-    }
-}
-
 // The duty of this number.
 pub(crate) fn duty_at(s: &[u8], counts: Counts, i: usize) -> Duty
     requires { ⌜ (counts ≡ countsOf (now s))
@@ -105,7 +82,7 @@ pub(crate) fn duty_at(s: &[u8], counts: Counts, i: usize) -> Duty
     let at = layout::duties_from(counts) + i * layout::DUTY;
     let serial = Serial(four_at(s, at));
     let doer = two_at(s, at + layout::DUTY_DOER);
-    let what = what_of(
+    let what = records::what_of(
         two_at(s, at + layout::DUTY_ACTION),
         two_at(s, at + layout::DUTY_FIRST),
         two_at(s, at + layout::DUTY_SECOND),
@@ -125,9 +102,10 @@ pub(crate) fn duty_at(s: &[u8], counts: Counts, i: usize) -> Duty
 pub(crate) fn second_fits(s: &[u8], counts: Counts, i: usize) -> bool
     requires { ⌜ (counts ≡ countsOf (now s))
         × (dutiesFrom counts + i * dutySize + dutySize ≤ length (now s)) ⌝ }
-    ensures { λ r. ⌜ r ≡ secondFits (now (s .entry)) i ⌝ }
+    ensures { λ r. ⌜ r ≡ secondFitsAt (now (s .entry)) i ⌝ }
 {
     let at = layout::duties_from(counts) + i * layout::DUTY;
     let action = two_at(s, at + layout::DUTY_ACTION);
-    ((action == 0) | (action == 1)) | (two_at(s, at + layout::DUTY_SECOND) == 0)
+    let second = two_at(s, at + layout::DUTY_SECOND);
+    records::second_fits(action, second)
 }

@@ -10,8 +10,8 @@ ghost use Rattle.orders.specs.Lists.{any, find};
 ghost use Rattle.board.specs.After.{named, withoutSerial};
 ghost use Rattle.board.specs.Filler.{noDuty};
 ghost use Rattle.board.specs.Limits.{maxDuties};
-ghost use Rattle.board.specs.Permitted.{whollyBefore};
 ghost use Rattle.board.specs.Saying.{padded};
+ghost use Rattle.board.specs.Windows.{whollyBefore};
 ghost use Rattle.pool.specs.ByStart.{byStart};
 ghost use Rattle.pool.specs.Found.{found};
 

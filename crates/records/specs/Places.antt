@@ -12,6 +12,7 @@ use Rattle.board.specs.declared.Duty.{Duty}
 use Rattle.board.specs.declared.Permission.{Permission}
 use Rattle.board.specs.declared.Rule.{Rule}
 use Rattle.board.specs.Good as g
+use Rattle.board.specs.Windows.{windowFits}
 
 -- what is asked of a part: a record fits; it is above the one before it; this is filler
 pub record Tests (A : Type 0) : Type 0 where
@@ -44,7 +45,7 @@ ruleTests roles = record { fits = g.ruleFits roles; below = g.ruleBelow; filler 
 abbrev pub dutyTests : Counts → ℕ → Tests Duty
 dutyTests n next =
     record {
-      fits = λ d. g.dutyFits (n .users) (n .roles) next d && g.windowFits d;
+      fits = λ d. g.dutyFits (n .users) (n .roles) next d && windowFits d;
       below = g.dutyBelow;
       filler = g.isNoDuty;
     }

@@ -87,13 +87,6 @@ pub fn duty_fits(d: Duty, users: u16, roles: u16, next: Serial) -> bool
     (0 < serial.0) & ((serial.0 < next.0) & ((d.doer < users) & what_fits(what, users, roles)))
 }
 
-// Whether a window does not start after its end.
-pub fn window_fits(d: Duty) -> bool
-    ensures { λ r. ⌜ r ≡ g.windowFits d ⌝ }
-{
-    d.start <= d.end
-}
-
 // Whether one pair of numbers is below another, by the first and then by the second.
 fn pair_below(a: u16, b: u16, c: u16, d: u16) -> bool
     ensures { λ r. ⌜ r ≡ g.pairBelow a b c d ⌝ }
@@ -227,7 +220,7 @@ fn duty_place(d: Duty, previous: Duty, i: usize, counts: Counts, next: Serial) -
 {
     let count = counts.duties as usize;
     if i < count {
-        (duty_fits(d, counts.users, counts.roles, next) & window_fits(d))
+        (duty_fits(d, counts.users, counts.roles, next) & windows::window_fits(d))
             & ((i == 0) | duty_below(previous, d))
     } else {
         is_no_duty(d)

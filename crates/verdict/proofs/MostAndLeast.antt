@@ -22,7 +22,8 @@ use Rattle.board.specs.declared.What.{What}
 use Rattle.board.specs.declared.What.the-variants.{Grant, Revoke, Use}
 use Rattle.board.specs.Green.{dutiesUnder}
 use Rattle.board.specs.Limits.{maxRoles}
-use Rattle.board.specs.Permitted.{effectOf, whollyBefore}
+use Rattle.board.specs.Permitted.{effectOf}
+use Rattle.board.specs.Windows.{whollyBefore}
 use Rattle.verdict.specs.Tests.{granted, revoked, most, least}
 
 -- the set after one duty: `by` says what it makes of a set

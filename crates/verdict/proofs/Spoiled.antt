@@ -33,7 +33,8 @@ use Rattle.board.specs.Good.{whatFits}
 use Rattle.board.specs.Green.{dutiesUnder}
 use Rattle.board.specs.Limits.{maxUsers, maxRoles}
 use Rattle.board.specs.Permitted.{Holding, sameHolding, rolesIn, askedFor, each, needs}
-use Rattle.board.specs.Permitted.{effectOf, whollyBefore}
+use Rattle.board.specs.Permitted.{effectOf}
+use Rattle.board.specs.Windows.{whollyBefore}
 use Rattle.board.proofs.RolesIn.{roles-mem}
 use Rattle.verdict.specs.Tests.{needsHeld, needsFree, needsOpposite, undoes, opposes, heals, harms}
 

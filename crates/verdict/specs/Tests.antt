@@ -13,7 +13,7 @@ use Rattle.board.specs.declared.Asked.the-variants.{Unruled, Role, Meets}
 use Rattle.board.specs.declared.Duty.{Duty}
 use Rattle.board.specs.declared.What.{What}
 use Rattle.board.specs.declared.What.the-variants.{Grant, Revoke, Use}
-use Rattle.board.specs.Permitted.{whollyBefore}
+use Rattle.board.specs.Windows.{whollyBefore}
 use Rattle.verdict.specs.declared.Place.{Place}
 use Rattle.verdict.specs.declared.Place.the-variants.{At, Nowhere}
 

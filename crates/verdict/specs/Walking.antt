@@ -14,8 +14,9 @@ use Rattle.board.specs.declared.Duty.{Duty}
 use Rattle.board.specs.Good.{whatFits}
 use Rattle.board.specs.Green.{worldOf}
 use Rattle.board.specs.Limits.{maxUsers, maxRoles}
-use Rattle.board.specs.Permitted.{heldIn, askedFor, needs, changed, whollyBefore}
+use Rattle.board.specs.Permitted.{heldIn, askedFor, needs, changed}
 use Rattle.board.specs.View.{view}
+use Rattle.board.specs.Windows.{whollyBefore}
 use Rattle.verdict.specs.declared.Walk.{Walk}
 
 abbrev pub serials : List Duty → List ℕ

@@ -1,8 +1,14 @@
 // Windows and the clock. Windows include both ends.
 use board::Duty;
 ghost use mathlib.Core.Path.{_≡_};
-ghost use Rattle.board.specs.Permitted.{whollyBefore};
-ghost use Rattle.board.specs.Windows.{inWindow};
+ghost use Rattle.board.specs.Windows.{windowFits, whollyBefore, inWindow};
+
+// Whether a window does not start after its end.
+pub fn window_fits(d: Duty) -> bool
+    ensures { λ r. ⌜ r ≡ windowFits d ⌝ }
+{
+    d.start <= d.end
+}
 
 // Whether a duty is wholly before another: its end is less than the other's start.
 pub fn wholly_before(b: Duty, c: Duty) -> bool

@@ -12,9 +12,10 @@ use borrow.Author.Needs.{needs}
 use Rattle.orders.proofs.Tests.{clash, not-true, not-false}
 use Rattle.board.specs.After.{withSerial}
 use Rattle.board.specs.Answers.{Check, Answers}
-use Rattle.board.specs.Good.{good, windowFits}
+use Rattle.board.specs.Good.{good}
 use Rattle.board.specs.Limits.{maxDuties, maxNext}
 use Rattle.board.specs.View.{view}
+use Rattle.board.specs.Windows.{windowFits}
 use Rattle.board.proofs.GoodLaws.{good→counts}
 use Rattle.board.proofs.Sized.{sized}
 use Rattle.requests.specs.Requests.{doingFits, asked}

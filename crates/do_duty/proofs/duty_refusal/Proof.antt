@@ -6,9 +6,8 @@ use borrow.Author.Needs.{needs}
 use Rattle.orders.specs.Lists.{any}
 use Rattle.orders.proofs.Tests.{clash, not-true, not-false, and-true}
 use Rattle.board.specs.Green.{permittedNow}
-use Rattle.board.specs.Permitted.{whollyBefore}
 use Rattle.board.specs.View.{view}
-use Rattle.board.specs.Windows.{inWindow}
+use Rattle.board.specs.Windows.{whollyBefore, inWindow}
 use Rattle.board.proofs.GoodLaws.{good→filler}
 use Rattle.acts.proofs.Laws.{permitted-now}
 use Rattle.do_duty.proofs.duty_refusal.Statement.{statement}

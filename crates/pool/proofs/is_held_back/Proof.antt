@@ -9,7 +9,7 @@ use Rattle.orders.specs.Lists.{any}
 use Rattle.orders.proofs.Loops.{none-next, some-at}
 use Rattle.board.specs.declared.Duty.{Duty}
 use Rattle.board.specs.Limits.{maxDuties}
-use Rattle.board.specs.Permitted.{whollyBefore}
+use Rattle.board.specs.Windows.{whollyBefore}
 use Rattle.pool.proofs.Turns.{in-turn, at-end, same-first}
 use Rattle.pool.proofs.is_held_back.Statement.{statement}
 use Rattle.pool.proofs.is_held_back.Tie as tie

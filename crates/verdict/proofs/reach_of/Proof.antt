@@ -6,7 +6,7 @@ use native.Mathlib.Omega.{arith}
 use borrow.Author.Needs.{needs}
 use lib.ListN.{length, take, getD}
 use Rattle.board.specs.Filler.{noDuty}
-use Rattle.board.specs.Permitted.{whollyBefore}
+use Rattle.board.specs.Windows.{whollyBefore}
 use Rattle.verdict.specs.Tests as tests
 use Rattle.verdict.proofs.MostAndLeast.{most-through, least-through, place-more}
 use Rattle.verdict.proofs.reach_of.Statement.{statement}

@@ -6,10 +6,10 @@ use Rattle.every_order.proofs.make.fitting_act.Statement.{statement}
 use Rattle.every_order.proofs.make.fitting_act.Tie as tie
 
 abbrev Inv-loop : tie.InvT-loop
-Inv-loop s draws n i held first tries k₀ k = (k ≤ tries) × (first < 4000)
+Inv-loop s board n i held first tries k₀ k = (k ≤ tries) × (first < 4000)
 
 abbrev μ-loop : tie.MeasureT-loop
-μ-loop s draws n i held first tries k₀ k = tries - k
+μ-loop s board n i held first tries k₀ k = tries - k
 
 pub fitting-act-spec : {M : Type 1} → statement M
 fitting-act-spec =

@@ -6,10 +6,10 @@ use Rattle.every_order.proofs.make.how_many.Statement.{statement}
 use Rattle.every_order.proofs.make.how_many.Tie as tie
 
 abbrev Inv-loop : tie.InvT-loop
-Inv-loop draws roles first end count₀ row₀ count row = Unit {0}
+Inv-loop board roles first end count₀ row₀ count row = Unit {0}
 
 abbrev μ-loop : tie.MeasureT-loop
-μ-loop draws roles first end count₀ row₀ count row = end - row
+μ-loop board roles first end count₀ row₀ count row = end - row
 
 pub how-many-spec : {M : Type 1} → statement M
 how-many-spec =

@@ -8,10 +8,10 @@ use Rattle.every_order.proofs.make.put_duties.Statement.{statement}
 use Rattle.every_order.proofs.make.put_duties.Tie as tie
 
 abbrev Inv-loop : tie.InvT-loop
-Inv-loop s₀ draws n held₀ w₀ i₀ s held w i = (i ≤ n .duties) × (n .duties < 256) × (length s ≡ length s₀)
+Inv-loop s₀ board n held₀ w₀ i₀ s held w i = (i ≤ n .duties) × (n .duties < 256) × (length s ≡ length s₀)
 
 abbrev μ-loop : tie.MeasureT-loop
-μ-loop s₀ draws n held₀ w₀ i₀ s held w i = n .duties - i
+μ-loop s₀ board n held₀ w₀ i₀ s held w i = n .duties - i
 
 pub put-duties-spec : {M : Type 1} → statement M
 put-duties-spec =
@@ -23,6 +23,7 @@ put-duties-spec =
     (λ c κs. search needs)
     (λ c κs. search needs)
     (λ c. search needs)
+    (λ c κs. search needs)
     (λ c κs. search needs)
     (λ c κs. search needs)
     (λ c κs. search needs)

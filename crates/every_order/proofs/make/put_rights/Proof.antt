@@ -8,10 +8,10 @@ use Rattle.every_order.proofs.make.put_rights.Statement.{statement}
 use Rattle.every_order.proofs.make.put_rights.Tie as tie
 
 abbrev Inv-loop : tie.InvT-loop
-Inv-loop s₀ draws n row₀ s row = (row ≤ 18) × (length s ≡ length s₀)
+Inv-loop s₀ board n row₀ s row = (row ≤ 18) × (length s ≡ length s₀)
 
 abbrev μ-loop : tie.MeasureT-loop
-μ-loop s₀ draws n row₀ s row = 18 - row
+μ-loop s₀ board n row₀ s row = 18 - row
 
 pub put-rights-spec : {M : Type 1} → statement M
 put-rights-spec =

@@ -6,10 +6,10 @@ use Rattle.every_order.proofs.rules.may_change.Statement.{statement}
 use Rattle.every_order.proofs.rules.may_change.Tie as tie
 
 abbrev Inv-loop : tie.InvT-loop
-Inv-loop s doer kind target role count place₀ place = place ≤ 8
+Inv-loop s by doer kind target role count place₀ place = place ≤ 8
 
 abbrev μ-loop : tie.MeasureT-loop
-μ-loop s doer kind target role count place₀ place = 8 - place
+μ-loop s by doer kind target role count place₀ place = 8 - place
 
 pub may-change-spec : {M : Type 1} → statement M
 may-change-spec =

@@ -6,10 +6,10 @@ use Rattle.every_order.proofs.rules.may_come_next.Statement.{statement}
 use Rattle.every_order.proofs.rules.may_come_next.Tie as tie
 
 abbrev Inv-loop : tie.InvT-loop
-Inv-loop s point duty other₀ other = other ≤ 6
+Inv-loop s by done duty other₀ other = other ≤ 6
 
 abbrev μ-loop : tie.MeasureT-loop
-μ-loop s point duty other₀ other = 6 - other
+μ-loop s by done duty other₀ other = 6 - other
 
 pub may-come-next-spec : {M : Type 1} → statement M
 may-come-next-spec =

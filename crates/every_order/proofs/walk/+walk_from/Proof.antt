@@ -16,7 +16,7 @@ use Rattle.every_order.proofs.walk.+walk_from.Tie.{close}
 
 -- how many duties are left
 abbrev left : Measures 1 ps ℕ
-left κs a = a .1 .1 .0
+left κs a = a .1 .1 .1 .0
 
 abbrev at : ℕ → In 1 ps
 at t = and 1 ps (is 1 ps left t) walk-from.Pre
@@ -25,10 +25,10 @@ abbrev below : ℕ → In 1 ps
 below t = and 1 ps (falls 1 ps _<_ left t) walk-from.Pre
 
 abbrev Inv-loop : lts.InvT-loop
-Inv-loop s point left met₀ duty₀ met duty = duty ≤ 6
+Inv-loop s by point left met₀ duty₀ met duty = duty ≤ 6
 
 abbrev μ-loop : lts.MeasureT-loop
-μ-loop s point left met₀ duty₀ met duty = 6 - duty
+μ-loop s by point left met₀ duty₀ met duty = 6 - duty
 
 pub +walk-from-spec : {M : Type 1} → statement M
 +walk-from-spec = close left λ t. lts.spec (

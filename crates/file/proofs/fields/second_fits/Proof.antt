@@ -24,14 +24,17 @@ add-two-at-2 c = search needs
 two-at-requires-2 : tie.Need-two-at-requires-2
 two-at-requires-2 c κs = search needs
 
+second-fits-requires : tie.Need-second-fits-requires
+second-fits-requires c κs = search needs
+
 returns : tie.Need-returns
 returns c =
-    rw (
-      c .before .two-at .ensures,
-      c .two-at2 .ensures,
-      c .before .before .duties-from .ensures,
-      c .before .before .before .before .pre .0,
-    )
+    let second = c .before in
+    let action = second .before in
+    let from = action .before in
+    let start = from .before .before in
+    rw (second .two-at2 .ensures, action .two-at .ensures, from .duties-from .ensures, start .pre .0) at
+    (c .second-fits .ensures)
 
 pub second-fits-spec : {M : Type 1} → statement M
 second-fits-spec =
@@ -44,4 +47,5 @@ second-fits-spec =
     two-at-requires
     add-two-at-2
     two-at-requires-2
+    second-fits-requires
     returns)
