@@ -130,7 +130,7 @@ module _ (b : Board) (size : Sized b) (before : List ℕ) (q : AskAdmit) (number
           window = leb-true (q .start) (q .end) window;
         }
 
-    fits-after : ViewFits (afterAdmit b q)
+    pub fits-after : ViewFits (afterAdmit b q)
     fits-after =
         admitted-fits (view b) fits-now (q .clock) (asked q ∷ [])
         (λ d m. at-cons (λ e. rw e new-fits) (λ n. elim n [ ]) m)

@@ -1,0 +1,44 @@
+-- Any calls on a live board, one after the other: any requests, clocks and lent lists, accepted or refused.
+-- Of each outcome no more is known than that it keeps the call's promise.
+use mathlib.Core.Path.{_≡_}
+use mathlib.Core.List.{List, [], _∷_}
+use Prim.Native.Nat.{ℕ}
+use Rattle.board.specs.declared.Answer.{Answer}
+use Rattle.board.specs.declared.Board.{Board}
+use Rattle.requests.specs.declared.AskAct.{AskAct}
+use Rattle.requests.specs.declared.AskAdmit.{AskAdmit}
+use Rattle.requests.specs.declared.AskDo.{AskDo}
+use Rattle.requests.specs.declared.AskWithdraw.{AskWithdraw}
+use Rattle.verdict.specs.Checked.{Checked}
+use Rattle.admit.specs.Admits.{Admits}
+use Rattle.act.specs.ActsNow.{ActsNow}
+use Rattle.do_duty.specs.Does.{Does}
+use Rattle.withdraw.specs.Withdraws.{Withdraws}
+
+-- a call: the list lent to it, and what it asks
+pub data Call : Type 0 where
+  admit : List ℕ → AskAdmit → Call
+  act : List ℕ → AskAct → Call
+  doDuty : AskDo → Call
+  withdraw : List ℕ → AskWithdraw → Call
+  check : List ℕ → Call
+
+-- The answer, the board value left and the lent list left keep the promise of the call on the board value b.
+abbrev pub Keeps : Board → Call → Answer → Board → List ℕ → Type 0
+Keeps b (admit before q) r left after = Admits b before q r left after
+Keeps b (act before q) r left after = ActsNow b before q r left after
+Keeps b (doDuty q) r left after = Does b q r left × (after ≡ [])
+Keeps b (withdraw before q) r left after = Withdraws b before q r left after
+Keeps b (check before) r left after = Checked b before after r × (left ≡ b)
+
+-- a call that was made, with its answer and the lent list after it
+pub record Made : Type 0 where
+  pub call : Call
+  pub answer : Answer
+  pub list : List ℕ
+
+-- These calls were made in turn on the board value b, and this board value is left.
+abbrev pub Calls : Board → List Made → Board → Type 0
+Calls b [] left = left ≡ b
+Calls b (m ∷ made) left =
+    (between : Board) × Keeps b (m .call) (m .answer) between (m .list) × Calls between made left

@@ -1,0 +1,30 @@
+-- Duties done in turn, each at the earliest minute that its window and the clock permit.
+use mathlib.Core.Path.{_≡_}
+use mathlib.Core.Bool.{false}
+use mathlib.Core.List.{List, [], _∷_}
+use Prim.Native.Nat.{max}
+use Rattle.orders.specs.Lists.{Mem}
+use Rattle.board.specs.declared.Answer.{Answer}
+use Rattle.board.specs.declared.Board.{Board}
+use Rattle.board.specs.declared.Duty.{Duty}
+use Rattle.board.specs.Numbers as answer
+use Rattle.board.specs.View.{view}
+use Rattle.board.specs.Windows.{isOver}
+use Rattle.requests.specs.declared.AskDo.{AskDo}
+use Rattle.do_duty.specs.Does.{Does}
+
+-- no open window is over
+abbrev pub NoneOver : Board → Type 0
+NoneOver b = (d : Duty) → Mem d (view b .duties) → isOver (b .clock) d ≡ false
+
+-- this duty is to be done at the earliest minute that its window and the clock permit
+abbrev pub earliestDo : Board → Duty → AskDo
+earliestDo b d = record { serial = d .serial; clock = max (b .clock) (d .start) }
+
+-- Whatever outcomes keep do's promise, one after the other: each is accepted, and no duty is left. So neither
+-- a board that refuses every call nor one that accepts calls and changes nothing keeps the promise.
+abbrev pub DoneInTurn : Board → List Duty → Type 0
+DoneInTurn b [] = view b .duties ≡ []
+DoneInTurn b (d ∷ order) =
+    (r : Answer) (left : Board) → Does b (earliestDo b d) r left
+    → (r .number ≡ answer.done) × DoneInTurn left order

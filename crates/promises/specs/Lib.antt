@@ -1,0 +1,6 @@
+pub mod GoodAndGreen
+pub mod Judged
+pub mod Calls
+pub mod InTurn
+pub mod Given
+pub mod Settled
