@@ -91,8 +91,8 @@ module _ (c : Call) where
     (gave-slice (0 ∷ []) tt (plain (λ _. u32)), (stay-none (λ _. Q c) yes, tt)),
   )
 
-  -- _1 is b, _2 list, _3 q, _4 board, _5 answer; _6 the local lent, _7 and _8 the list lent on, _9 a copy of
-  -- the board
+  -- _1 is b, _2 list, _3 q, _4 board, _5 answer; _6 the local lent, _7 and _8 the list lent on, _9 a copy
+  -- of the board
   abbrev pub once : Name → Fn
   once f = record {
     lifetimes = 1;
@@ -265,8 +265,7 @@ module _ (c : Call) where
           (λ w. use1 W (later (some (some-found ν l₄ γ w))) (came ν l₄ γ w) $ await ! tt $
           pick ! (λ a. pick ! (λ d. pick ! (λ zs. learn ! (λ long. learn ! (λ k.
           -- [its token, the last board and the list, spent; the lender's part; _9; …]
-          land ! (from ! (stop !))
-          (init ! 10 refl (answer-typed W a (k .1))) $
+          land ! (from ! (stop !)) (init ! 10 refl (answer-typed W a (k .1))) $
           rewrite ! 10 (λ (u : Val). ‵ (fat fullShare An′.mir l₅ 0 u))
           (ap only (LL.tells An.the-type An′.the-laws a _ (k .1))) refl $
           -- the local is taken back, and its cell put among the others

@@ -138,8 +138,8 @@ module _ (c : Call) where
     (gave-slice (1 ∷ []) tt (plain (λ _. u32)), (stay-none (λ _. Q) yes, tt)),
   )
 
-  -- ---- the MIR: _1 is b, _2 list, _3 q, _4 o; _5 the copy of the board, _6 and _7 the list lent on, _8 the
-  -- flag
+  -- ---- the MIR. _1 is b, _2 list, _3 q, _4 the outcome; _5 the copy of the board, _6 and _7 the list lent
+  -- on, _8 the flag
 
   -- what runs after the branch
   abbrev last : MBody
@@ -274,8 +274,7 @@ module _ (c : Call) where
         says ! promised $
         -- the tokens
         move ! (3 ∷ []) $ split ! $ move ! (4 ∷ 0 ∷ []) $ join ! $ frame ! $
-        -- [the list's last entries; the borrow's two parts]: what is had of the request, the list and the
-        -- board
+        -- [the list's last entries; the borrow's two parts]: what is had of request, list and board
         nothing ! $ has ! (c .asked) (c .laws) (c .plains) n n-is $ fjoin ! $
         move ! (1 ∷ 0 ∷ []) $ fjoin ! $ move ! (1 ∷ 2 ∷ []) $
         feqI ! (List Val) (p ∷ []) (p ∷ []) refl $ fjoin3 ! $ fjoin ! $
@@ -289,8 +288,7 @@ module _ (c : Call) where
         abbrev others : Env 𝓤 H
         others =
             (board-ref, l₁) ∷ (list-ref (named 1), l₂) ∷ (layout (shape (c .asked)), l₃) ∷ (O′.mir, l₄)
-            ∷ (B′.mir, l₅)
-            ∷ (entry-ref erased, l₆) ∷ (list-ref erased, l₇) ∷ (tyBool, l₈) ∷ []
+            ∷ (B′.mir, l₅) ∷ (entry-ref erased, l₆) ∷ (list-ref erased, l₇) ∷ (tyBool, l₈) ∷ []
 
         abbrev env : Env 𝓤 H
         env = (An′.mir, l₀) ∷ others
@@ -347,18 +345,15 @@ module _ (c : Call) where
             (λ w. use1 W (later (some (λ (r : Outcome). some (found w r)))) (came w) $ await ! tt $
             pick ! (λ r. pick ! (λ zs. learn ! (λ long. learn ! (λ k. move ! (1 ∷ 2 ∷ 3 ∷ 4 ∷ 5 ∷ []) $
             -- [the open borrow's five parts; the list, spent; _8; …]
-            land ! (from ! (stop !))
-            (init ! 14 refl (outcome-typed W r (k .is))) $
+            land ! (from ! (stop !)) (init ! 14 refl (outcome-typed W r (k .is))) $
             rewrite ! 14 (λ (u : Val). ‵ (fat fullShare O′.mir l₄ 0 u))
             (ap only (LL.tells O.the-type O′.the-laws r _ (k .is))) refl $
             -- _8 = o.accepted
             sets ! (of-opd ! (at-field ! 14 1 refl refl refl)) 6 refl (tt, tt) $
             first ! $ branches ! (at-local ! 6 refl)
             -- accepted: *b = o.board
-            (λ on.
-            assigns-last ! (of-opd ! (at-field ! 14 2 refl refl refl))
-            (from ! (hop ! (look ! 20 refl) (stop !)))
-            (store-raw ! 0 refl
+            (λ on. assigns-last ! (of-opd ! (at-field ! 14 2 refl refl refl))
+            (from ! (hop ! (look ! 20 refl) (stop !))) (store-raw ! 0 refl
             (board-typed W (r .board) (is-board r w (k .is)))) $
             by ! (ends l₀ l₁ l₂ l₃ l₄ l₅ l₆ l₇ l₈ w r (r .board) zs (k .is) (is-board r w (k .is))
             (k .promised) long))

@@ -185,8 +185,7 @@ module _ {M : Type 1} (𝓤 : URA M) (H : Heap 𝓤) (A : Atoms 𝓤) (W : Given
         (λ w. use1 W (later (some (λ (a : Answer). some (found ν l₃ γ w a)))) (came ν l₃ γ w) $ await ! tt $
         pick ! (λ a. pick ! (λ d. learn ! (λ k.
         -- [its token, the last board and true; the lender's part; _6; …]
-        land ! (from ! (stop !))
-        (init ! 6 refl (answer-typed W a (k .1))) $
+        land ! (from ! (stop !)) (init ! 6 refl (answer-typed W a (k .1))) $
         rewrite ! 6 (λ (u : Val). ‵ (fat fullShare An′.mir l₄ 0 u))
         (ap only (LL.tells An.the-type An′.the-laws a _ (k .1))) refl $
         -- the local is taken back, and its cell put among the others

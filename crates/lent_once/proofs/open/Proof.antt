@@ -77,8 +77,8 @@ stayed = (
 )
 
 -- ---- the walk, at a board h and references y to the bytes and z to the list; each lifetime with its token.
--- _1 is b, _2 s, _3 list, _4 board, _5 answer; _6 the local lent, _7 and _8 the list lent on, _9 a copy of
--- the board
+-- _1 is b, _2 s, _3 list, _4 board, _5 answer; _6 the local lent, _7 and _8 the list lent on, _9 a copy
+-- of the board
 
 module _ {M : Type 1} (𝓤 : URA M) (H : Heap 𝓤) (A : Atoms 𝓤) (W : Given 𝓤 H A) (mem : Memory → SProp 𝓤)
     (run : Routine → Fun 𝓤) (κ₁ κ₂ : Lft) (q₁ q₂ : Share) (h : Board) (h-is : IsBoard h)
@@ -245,8 +245,7 @@ module _ {M : Type 1} (𝓤 : URA M) (H : Heap 𝓤) (A : Atoms 𝓤) (W : Given
         (λ w. use1 W (later (some (some-found ν l₄ γ w))) (came ν l₄ γ w) $ await ! tt $
         pick ! (λ a. pick ! (λ d. pick ! (λ zs. learn ! (λ long. learn ! (λ k.
         -- [its token, the last board and the list, spent; the lender's part; the bytes; _9; …]
-        land ! (from ! (stop !))
-        (init ! 11 refl (answer-typed W a (k .1))) $
+        land ! (from ! (stop !)) (init ! 11 refl (answer-typed W a (k .1))) $
         rewrite ! 11 (λ (u : Val). ‵ (fat fullShare An′.mir l₅ 0 u))
         (ap only (LL.tells An.the-type An′.the-laws a _ (k .1))) refl $
         -- the local is taken back, and its cell put among the others

@@ -215,18 +215,15 @@ module _ {M : Type 1} (𝓤 : URA M) (H : Heap 𝓤) (A : Atoms 𝓤) (W : Given
           (and-then ! (at-local ! 8 refl) (and-then ! (at-local ! 12 refl) (no-more !)))
           (λ w. use1 W (later (some (found w))) (came w) $ await ! tt $ pick ! (λ r. learn ! (λ k. drop ! $
           -- [the open borrow's five parts; _5; …]
-          land ! (from ! (stop !))
-          (init ! 9 refl (outcome-typed W r (k .is))) $
+          land ! (from ! (stop !)) (init ! 9 refl (outcome-typed W r (k .is))) $
           rewrite ! 9 (λ (u : Val). ‵ (fat fullShare O′.mir l₃ 0 u))
           (ap only (LL.tells O.the-type O′.the-laws r _ (k .is))) refl $
           -- _5 = o.accepted
           sets ! (of-opd ! (at-field ! 9 1 refl refl refl)) 5 refl (tt, tt) $
           first ! $ branches ! (at-local ! 5 refl)
           -- accepted: *b = o.board
-          (λ on.
-          assigns-last ! (of-opd ! (at-field ! 9 2 refl refl refl))
-          (from ! (hop ! (look ! 13 refl) (stop !)))
-          (store-raw ! 0 refl
+          (λ on. assigns-last ! (of-opd ! (at-field ! 9 2 refl refl refl))
+          (from ! (hop ! (look ! 13 refl) (stop !))) (store-raw ! 0 refl
           (board-typed W (r .board) (is-board r w (k .is)))) $
           by ! (ends l₀ l₁ l₂ l₃ l₄ l₅ w r (r .board) (k .is) (is-board r w (k .is)) (k .promised)))
           -- refused: nothing is stored, and the board of the outcome is the old one

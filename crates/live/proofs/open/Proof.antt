@@ -75,8 +75,7 @@ is-answer r w is = LL.owed O.the-type O′.the-laws r _ is .0
 is-board : (r : Opened) (w : Val) → Is O.the-row r (w ∷ []) → IsBoard (r .board)
 is-board r w is = LL.owed O.the-type O′.the-laws r _ is .1 .0
 
--- at the end the borrows of the board and of the bytes are still there, the list's was given to the call for
--- good
+-- at the end the borrows of board and bytes are still there, the list's was given to the call for good
 abbrev stayed : Stays (lent.ended .signature .params) (lent.ended .kept)
 stayed = (
   stay-ref (0 ∷ []) tt (plain (λ _. B.the-row)),
@@ -192,8 +191,7 @@ module _ {M : Type 1} (𝓤 : URA M) (H : Heap 𝓤) (A : Atoms 𝓤) (W : Given
       says ! promised $
       -- the tokens
       move ! (3 ∷ []) $ split ! $ move ! (4 ∷ 0 ∷ []) $ join ! $ frame ! $
-      -- [the list's last entries; the borrow's two parts; the bytes]: what is had of the list, the bytes and
-      -- the board
+      -- [the list's last entries; the borrow's two parts; the bytes]: what is had of list, bytes and board
       nothing ! $ move ! (1 ∷ 0 ∷ []) $ fjoin ! $ move ! (3 ∷ 0 ∷ []) $ fjoin ! $ move ! (1 ∷ 2 ∷ []) $
       feqI ! (List Val) (p ∷ []) (p ∷ []) refl $ fjoin3 ! $ fjoin ! $
       -- and of the answer
@@ -237,10 +235,8 @@ module _ {M : Type 1} (𝓤 : URA M) (H : Heap 𝓤) (A : Atoms 𝓤) (W : Given
         -- the board's borrow is opened: its five parts come first, then the list, spent, the bytes, _6 and on
         move ! (16 ∷ 17 ∷ 18 ∷ []) $ opens-board ! tt x (λ g.
         -- *b = o.board
-        assigns ! (of-opd ! (at-field ! 11 1 refl refl refl))
-        (from ! (hop ! (look ! 17 refl) (stop !)))
-        (store-raw ! 0 refl
-        (board-typed W (r .board) (is-board r w (k .1)))) $
+        assigns ! (of-opd ! (at-field ! 11 1 refl refl refl)) (from ! (hop ! (look ! 17 refl) (stop !)))
+        (store-raw ! 0 refl (board-typed W (r .board) (is-board r w (k .1)))) $
         -- the answer is stored, the borrow is closed, and the locals are freed
         sets ! (of-opd ! (at-field ! 11 0 refl refl refl)) 19 refl
         (answer-typed W (r .answer) (is-answer r w (k .1))) $
