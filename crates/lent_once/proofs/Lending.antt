@@ -2,7 +2,6 @@
 -- `Left`.
 --     lends-board      the local's cell becomes a reference, for a lifetime ν that is made for the call
 --     takes-back       ν is ended, and the cell comes back with the last board under the reference's name
--- Assumes nothing.
 use mathlib.Core.Path.{subst}
 use mathlib.Core.List.{List, [], _∷_}
 use Prim.Native.Nat.{ℕ}

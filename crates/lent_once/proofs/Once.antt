@@ -4,7 +4,6 @@
 --     once-.., once    the signature and contract and the MIR, as `rattle check` makes them of each call
 --     runs-once        where the lent call meets its contract, this meets its own
 -- The board goes into a local, which is lent to the call and taken back with what the call left there.
--- Assumes nothing.
 use mathlib.Core.Path.{_≡_, refl, ap}
 use mathlib.Core.List.{List, [], _∷_}
 use Prim.Native.Nat.{ℕ}

@@ -1,5 +1,4 @@
 -- What admit, act and withdraw ask and promise, for the walk that they share.
--- Assumes nothing.
 use mathlib.Core.Path.{refl}
 use Rattle.requests.proofs.AskAdmit as AskAdmit
 use Rattle.requests.proofs.AskAdmit.Laws as AskAdmit′

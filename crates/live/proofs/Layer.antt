@@ -8,7 +8,6 @@
 -- The borrow of the board is opened and the board copied out. The call gets the copy, and the borrow of the
 -- list for good. If it accepted, the board that it gave is stored over the old one; if not, its promise says
 -- that this board is the old one. The borrow is closed at the board that lies there.
--- Assumes nothing.
 use mathlib.Core.Path.{_≡_, refl, ap, subst}
 use mathlib.Core.List.{List, [], _∷_}
 use Prim.Native.Nat.{ℕ}

@@ -7,7 +7,6 @@
 --     closes-board     the borrow is closed at the board that lies there now
 --     sinks            the first n entries go to the end
 --     leaves           all locals are freed, at a return
--- Assumes nothing.
 use mathlib.Core.Path.{_≡_, refl, sym, _∙_, subst}
 use mathlib.Core.Bool.{Bool, true, false, not}
 use mathlib.Core.List.{List, [], _∷_, _++_}

@@ -1,5 +1,4 @@
 -- `lent_once::act` meets its contract: the walk of `Once.antt` at what `live::act` asks and promises.
--- Assumes nothing.
 use contract.Running.{givenOf, tables, tablesOf}
 use denote.Triple.Spec.{tripleOf}
 use denote.Triple.Table.{entered, cited}

@@ -1,6 +1,5 @@
 -- `lent_once::do_duty` meets its contract: a walk of its MIR. It is the walk of `Once.antt` without a list:
 -- the board goes into a local, which is lent to the call and taken back with what the call left there.
--- Assumes nothing.
 use mathlib.Core.Path.{refl, ap}
 use mathlib.Core.List.{List, [], _∷_}
 use Prim.Native.Nat.{ℕ}

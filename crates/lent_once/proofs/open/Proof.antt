@@ -1,7 +1,6 @@
 -- `lent_once::open` meets its contract: a walk of its MIR. The board goes into a local, which is lent to the
 -- call and taken back with what the call left there. The bytes are only read, so what their borrow owns is
 -- had twice: one for the call, one for the end.
--- Assumes nothing.
 use mathlib.Core.Path.{_≡_, refl, ap}
 use mathlib.Core.List.{List, [], _∷_}
 use Prim.Native.Nat.{ℕ}

@@ -1,6 +1,5 @@
 -- `lent_once::withdraw` meets its contract: the walk of `Once.antt` at what `live::withdraw` asks and
 -- promises.
--- Assumes nothing.
 use contract.Running.{givenOf, tables, tablesOf}
 use denote.Triple.Spec.{tripleOf}
 use denote.Triple.Table.{entered, cited}

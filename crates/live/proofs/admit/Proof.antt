@@ -1,5 +1,4 @@
 -- `live::admit` meets its contract: the layer's walk at what `admit::admit` asks and promises.
--- Assumes nothing.
 use mathlib.Core.Path.{_≡_, refl}
 use contract.Running.{givenOf, tables, tablesOf}
 use denote.Triple.Spec.{tripleOf}

@@ -1,7 +1,6 @@
 -- `live::do_duty` meets its contract: a walk of its MIR. It is the layer's walk (`Layer.antt`) without a
 -- list: the borrow of the board is opened and the board copied out; the call gets the copy; what it accepted
 -- is stored, and the borrow is closed at the board that lies there.
--- Assumes nothing.
 use mathlib.Core.Path.{refl, ap, subst}
 use mathlib.Core.List.{List, [], _∷_}
 use Prim.Native.Nat.{ℕ}

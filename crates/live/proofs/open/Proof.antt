@@ -2,7 +2,6 @@
 -- had twice: one for the call, one for the end. The list's borrow goes to the call for good. The borrow of
 -- the board is opened when the call has returned; the board that it gave is stored, accepted or not, and the
 -- borrow is closed.
--- Assumes nothing.
 use mathlib.Core.Path.{_≡_, refl, ap}
 use mathlib.Core.List.{List, [], _∷_}
 use Prim.Native.Nat.{ℕ}
