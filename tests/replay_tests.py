@@ -1,5 +1,7 @@
 """The command replay: a session of document 01, and what cannot be read."""
-from support import FolderTest, command, read, run, sample
+import subprocess
+
+from support import FolderTest, command, run, sample
 
 # Document 01's board 12, line by line.
 CASE_12 = '''open 0 0
@@ -23,14 +25,16 @@ class Replay(FolderTest):
         self.ends(run([command('replay'), sample('case12.replay')]), 0, CASE_12, '')
 
     def test_standard_input(self):
-        self.ends(run([command('replay')], input=read(sample('case12.replay'))), 0, CASE_12, '')
+        with open(sample('case12.replay'), 'rb') as session:
+            self.ends(run([command('replay')], stdin=session), 0, CASE_12, '')
 
     def test_nothing_to_open(self):
-        self.ends(run([command('replay')], input=b''), 0,
+        self.ends(run([command('replay')], stdin=subprocess.DEVNULL), 0,
                   'open 1 0\nboard 1 1 0 0 0 0 1\nholds 0\nlist ok\n', '')
 
     def test_what_cannot_be_read(self):
-        self.ends(run([command('replay'), self.path('none')]), 2, '', f'replay: {self.path("none")} is not there\n')
+        none = self.path('none')
+        self.ends(run([command('replay'), none]), 2, '', f'replay: {none} is not there\n')
         self.ends(run([command('replay'), self.folder]), 2, '', f'replay: {self.folder} is a folder\n')
 
     def test_usage(self):

@@ -1,8 +1,10 @@
-// Document 01's small boards, run and compared: 1 to 11 as files that are opened, 12 to 14 call by call. A
-// line for each with what was told, and a last line with the number of differences from document 01.
+// Document 01's small boards, run and compared: 1 to 11 as files that are opened, 12 to 14 call by call;
+// all by value and then through the lent layer. A line for each with what was told, and a last line with
+// the number of differences from document 01.
 mod boards;
 mod by_value;
 mod bytes;
+mod lent;
 mod steps;
 mod wanted;
 
@@ -13,9 +15,9 @@ use boards::Small;
 use boards::board_of;
 use boards::file_of;
 use boards::opening_of;
-use by_value::called;
 use bytes::lesser;
-use calls::Opened;
+use lent_once::Left;
+use steps::Ask;
 use steps::Case;
 use steps::case_of;
 use steps::step_of;
@@ -64,11 +66,19 @@ fn end_line(right: bool) -> u32 {
 
 // ---- boards that are opened
 
+// Open a board file, by value or into a lent board.
+fn open(lent: bool, s: &[u8], list: &mut [u32]) -> Left {
+    if lent {
+        return lent::open(s, list);
+    }
+    by_value::open(s, list)
+}
+
 // Open the file of a small board.
-fn opened(board: Small, list: &mut [u32]) -> Opened {
+fn opened(lent: bool, board: Small, list: &mut [u32]) -> Left {
     let mut bytes = [0u8; 256];
     let n = file_of(board, &mut bytes);
-    calls::open(&bytes[0..n], list)
+    open(lent, &bytes[0..n], list)
 }
 
 // What was told of a board, and of user 1 and the open duties on it.
@@ -94,12 +104,20 @@ fn print_name(k: u8) {
     number(k as u64);
 }
 
+// Print how the calls are made.
+fn print_way(lent: bool) {
+    if lent {
+        io::write_all(1, b"lent ");
+    }
+}
+
 // Open the k-th file, and compare the answer.
-fn open_case(k: u8) -> u32 {
+fn open_case(lent: bool, k: u8) -> u32 {
     let mut list = [MARK; Board::DUTIES];
-    let opening = opened(board_of(k), &mut list);
+    let opening = opened(lent, board_of(k), &mut list);
     let answer = opening.answer;
     let board = opening.board;
+    print_way(lent);
     print_name(k);
     io::write_all(1, b":");
     print_answer(answer, &list);
@@ -107,11 +125,11 @@ fn open_case(k: u8) -> u32 {
 }
 
 // Open every file.
-fn open_all() -> u32 {
+fn open_all(lent: bool) -> u32 {
     let mut differences: u32 = 0;
     let mut k: u8 = 1;
     while k <= FILES {
-        differences = plus(differences, open_case(k));
+        differences = plus(differences, open_case(lent, k));
         k += 1;
     }
     differences
@@ -125,15 +143,24 @@ struct Turn {
     pub differences: u32,
 }
 
-// Make the call of a step, by value, and compare the answer and the board.
-fn made(case: Case, k: u8, before: Turn) -> Turn {
+// Make a call, by value or on a lent board.
+fn called(lent: bool, b: Board, ask: Ask, list: &mut [u32]) -> Left {
+    if lent {
+        return lent::called(b, ask, list);
+    }
+    by_value::called(b, ask, list)
+}
+
+// Make the call of a step, and compare the answer and the board.
+fn made(lent: bool, case: Case, k: u8, before: Turn) -> Turn {
     let step = step_of(case.number, k);
     let mut list = [MARK; Board::DUTIES];
     let ask = step.ask;
     let b = before.board;
-    let outcome = called(b, ask, &mut list);
-    let answer = outcome.answer;
-    let board = outcome.board;
+    let left = called(lent, b, ask, &mut list);
+    let answer = left.answer;
+    let board = left.board;
+    print_way(lent);
     io::write_all(1, b"case");
     number(case.number as u64);
     io::write_all(1, b" step");
@@ -149,10 +176,10 @@ fn made(case: Case, k: u8, before: Turn) -> Turn {
 }
 
 // The steps of a case in turn, on the board that it opens.
-fn run(which: u8) -> u32 {
+fn run(lent: bool, which: u8) -> u32 {
     let case = case_of(which);
     let mut list = [MARK; Board::DUTIES];
-    let opening = opened(board_of(case.file), &mut list);
+    let opening = opened(lent, board_of(case.file), &mut list);
     let board = opening.board;
     let mut now = Turn {
         board,
@@ -161,7 +188,7 @@ fn run(which: u8) -> u32 {
     let mut k: u8 = 0;
     while k < case.steps {
         k += 1;
-        let next = made(case, k, now);
+        let next = made(lent, case, k, now);
         now = next;
     }
     now.differences
@@ -176,10 +203,16 @@ fn plus(a: u32, b: u32) -> u32 {
     }
 }
 
+// All boards, by value or through the lent layer: how many differences there were.
+fn all(lent: bool) -> u32 {
+    let files = open_all(lent);
+    let calls = plus(plus(run(lent, 12), run(lent, 13)), run(lent, 14));
+    plus(files, calls)
+}
+
 fn main() {
-    let files = open_all();
-    let calls = plus(plus(run(12), run(13)), run(14));
+    let differences = plus(all(false), all(true));
     io::write_all(1, b"differences");
-    number(plus(files, calls) as u64);
+    number(differences as u64);
     io::write_all(1, b"\n");
 }

@@ -20,8 +20,8 @@ use Rattle.board.specs.Filler.{Sized}
 use Rattle.board.specs.Green.{Green, Red, worldOf}
 use Rattle.board.specs.Numbers as answer
 use Rattle.board.specs.Open.{NotOpen, OpenWith}
-use Rattle.board.specs.Windows.{whollyBefore}
 use Rattle.board.specs.View.{View, view}
+use Rattle.board.specs.Windows.{whollyBefore}
 use Rattle.board.proofs.AnswersLaws.{NoneApplies, none-first, none-second, then-second}
 use Rattle.board.proofs.GreenLaws.{green-not-red}
 use Rattle.board.proofs.SayingLaws.{ViewFits, view-fits}

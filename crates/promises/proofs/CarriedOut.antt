@@ -14,19 +14,22 @@ use Rattle.orders.proofs.Tests.{clash, and-both}
 use Rattle.board.specs.declared.Answer.{Answer}
 use Rattle.board.specs.declared.Board.{Board}
 use Rattle.board.specs.declared.Duty.{Duty}
+use Rattle.board.specs.Answers.{doneAnswer}
 use Rattle.board.specs.Green.{worldOf}
 use Rattle.board.specs.Numbers as answer
 use Rattle.board.specs.Open.{OpenWith}
 use Rattle.board.specs.Permitted.{heldIn}
+use Rattle.board.specs.Saying.{boardSaying}
 use Rattle.board.specs.View.{View, view}
 use Rattle.board.specs.Windows.{inWindow}
-use Rattle.board.proofs.AnswersLaws.{NoneApplies, none-done}
+use Rattle.board.proofs.AnswersLaws.{NoneApplies, none-done, then-second}
 use Rattle.board.proofs.PoolLaws.{duty-window}
 use Rattle.board.proofs.SayingLaws.{ViewFits, view-saying}
+use Rattle.board.proofs.ToldLaws.{untouched}
 use Rattle.do_duty.specs.Does.{doChecks, afterDo, Does}
 use Rattle.promises.specs.Calls.{doDuty}
 use Rattle.promises.specs.GoodAndGreen.{Whole, GoodAndGreen}
-use Rattle.promises.specs.InTurn.{NoneOver, earliestDo, DoneInTurn}
+use Rattle.promises.specs.InTurn.{NoneOver, earliestDo, DoneInTurn, CanBeDone}
 use Rattle.promises.proofs.AfterCalls.{whole-fits, after-fits}
 use Rattle.promises.proofs.DidLaws.{pool, one-duty, did-held}
 use Rattle.promises.proofs.StaysGreen.{step-whole}
@@ -82,6 +85,16 @@ module _
     goes-on : CarriedFrom (afterDo b (earliestDo b d)) order
     goes-on = rw (did-held v fits (earliestDo b d .clock) d (c .3 .open-d)) (c .5)
 
+    -- the board that the promise names, with the answer done, keeps it
+    pub keeps : Does b (earliestDo b d) (doneAnswer 0) (boardSaying (afterDo b (earliestDo b d)))
+    keeps =
+        record {
+          number = then-second (doChecks b (earliestDo b d)) [] answer.done none-applies refl;
+          accepted = λ e. (refl, refl);
+          refused = λ f. absurd (f refl);
+          told = untouched (afterDo b (earliestDo b d)) [] answer.done (λ e. omega arith);
+        }
+
     module _ (r : Answer) (left : Board) (k : Does b (earliestDo b d) r left) where
       pub accepted : r .number ≡ answer.done
       accepted = none-done (doChecks b (earliestDo b d)) (r .number) none-applies (k .number)
@@ -105,14 +118,33 @@ in-turn (d ∷ order) b w c =
           (left-goes-on b w d order c r left k),
     )
 
--- If no open window is over, in each allowed order, each duty done at the earliest minute its window and the
--- clock permit, all are accepted and none is left.
-pub all-done :
-    (b : Board) → GoodAndGreen b → NoneOver b → (order : List Duty)
-    → Order (worldOf (view b)) (view b .duties) order → DoneInTurn b order
-all-done b g open-still order o =
-    let fits = whole-fits b (g .whole) in
-    in-turn order b (g .whole)
-    (carried-out (worldOf (view b)) (λ d. d .start) (λ d. d .end) order (b .clock) (heldIn (view b .holdings))
-    (view b .duties) (pool (view b) fits) (g .green) (duty-window (view b) (fits .records))
-    (λ d m. omega (arith, ltb-false (d .end) _ (open-still d m))) o)
+can-be : (order : List Duty) (b : Board) → Whole b → CarriedFrom (view b) order → CanBeDone b order
+can-be [] b w c = c
+can-be (d ∷ order) b w c =
+    let left = boardSaying (afterDo b (earliestDo b d)) in
+    let k = keeps b w d order c in (
+      left,
+      k,
+      can-be order left (step-whole b (doDuty (earliestDo b d)) (doneAnswer 0) left [] (k, refl) w)
+          (left-goes-on b w d order c (doneAnswer 0) left k),
+    )
+
+module _
+    (b : Board) (g : GoodAndGreen b) (open-still : NoneOver b) (order : List Duty)
+    (o : Order (worldOf (view b)) (view b .duties) order)
+  where
+    carried : CarriedFrom (view b) order
+    carried =
+        let fits = whole-fits b (g .whole) in
+        carried-out (worldOf (view b)) (λ d. d .start) (λ d. d .end) order (b .clock)
+        (heldIn (view b .holdings)) (view b .duties) (pool (view b) fits) (g .green)
+        (duty-window (view b) (fits .records)) (λ d m. omega (arith, ltb-false (d .end) _ (open-still d m))) o
+
+    -- If no open window is over, in each allowed order, each duty done at the earliest minute its window and
+    -- the clock permit, all are accepted and none is left,
+    pub all-done : DoneInTurn b order
+    all-done = in-turn order b (g .whole) carried
+
+    -- and it can be done.
+    pub can-be-done : CanBeDone b order
+    can-be-done = can-be order b (g .whole) carried

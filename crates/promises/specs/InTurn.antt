@@ -7,6 +7,7 @@ use Rattle.orders.specs.Lists.{Mem}
 use Rattle.board.specs.declared.Answer.{Answer}
 use Rattle.board.specs.declared.Board.{Board}
 use Rattle.board.specs.declared.Duty.{Duty}
+use Rattle.board.specs.Answers.{doneAnswer}
 use Rattle.board.specs.Numbers as answer
 use Rattle.board.specs.View.{view}
 use Rattle.board.specs.Windows.{isOver}
@@ -28,3 +29,9 @@ DoneInTurn b [] = view b .duties ≡ []
 DoneInTurn b (d ∷ order) =
     (r : Answer) (left : Board) → Does b (earliestDo b d) r left
     → (r .number ≡ answer.done) × DoneInTurn left order
+
+-- And such outcomes there are, with the answer done.
+abbrev pub CanBeDone : Board → List Duty → Type 0
+CanBeDone b [] = view b .duties ≡ []
+CanBeDone b (d ∷ order) =
+    (left : Board) × Does b (earliestDo b d) (doneAnswer 0) left × CanBeDone left order

@@ -66,7 +66,9 @@ permitted-is :
 permitted-is c =
     let four = c .before .before in
     let s = start4 four in
-    let one : tie.Else1 = four .before .before .before .before .before .before .before in
+    let three : tie.Else3 = four .before .before .before in
+    let two : tie.Else2 = three .before .before .before in
+    let one : tie.Else1 = two .before in
     let filler = and-true _ _ (good→filler (s .args .b) (whole one)) .0 in
     c .permitted .ensures
     ∙ permitted-now (s .args .b) filler (s .args .q .doer) (c .before .what-of .result)

@@ -90,7 +90,10 @@ counted c =
     length-take-le (b .counts .duties) (b .duties) (rw (size .duties) (good→counts b (whole c) .duties))
 
 abbrev else1 : tie.Else5 → tie.Else1
-else1 c = c .before .before .before .before .before .before .before .before .before .before .before
+else1 c =
+    let four = c .before .before .before .before in
+    let three = four .before .before .before in
+    let two = three .before .before .before in two .before
 
 past6 : (c : tie.Else6) → Past (start6 c) 6
 past6 c n a =

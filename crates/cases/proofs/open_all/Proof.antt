@@ -5,10 +5,10 @@ use Rattle.cases.proofs.open_all.Statement.{statement}
 use Rattle.cases.proofs.open_all.Tie as tie
 
 abbrev Inv-loop : tie.InvT-loop
-Inv-loop differences₀ k₀ differences k = k ≤ 14
+Inv-loop lent differences₀ k₀ differences k = k ≤ 14
 
 abbrev μ-loop : tie.MeasureT-loop
-μ-loop differences₀ k₀ differences k = 14 - k
+μ-loop lent differences₀ k₀ differences k = 14 - k
 
 pub open-all-spec : {M : Type 1} → statement M
 open-all-spec =

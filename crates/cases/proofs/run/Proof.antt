@@ -5,10 +5,10 @@ use Rattle.cases.proofs.run.Statement.{statement}
 use Rattle.cases.proofs.run.Tie as tie
 
 abbrev Inv-loop : tie.InvT-loop
-Inv-loop which case now₀ k₀ now k = (k ≤ case .steps) × (case .steps < 256)
+Inv-loop lent which case now₀ k₀ now k = (k ≤ case .steps) × (case .steps < 256)
 
 abbrev μ-loop : tie.MeasureT-loop
-μ-loop which case now₀ k₀ now k = case .steps - k
+μ-loop lent which case now₀ k₀ now k = case .steps - k
 
 pub run-spec : {M : Type 1} → statement M
 run-spec =

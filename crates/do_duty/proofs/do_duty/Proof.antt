@@ -30,7 +30,7 @@ good-here c =
 -- ---- the duty was found
 
 abbrev passed : tie.After-known-told → tie.Else1
-passed c = c .before .before .before .before .before .before .before
+passed c = let sought = c .before .before .before in sought .before .before .before .before
 
 abbrev duty : tie.After-known-told → Duty
 duty c = c .before .found .given .0 .0
