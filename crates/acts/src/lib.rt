@@ -32,7 +32,7 @@ fn is_for(p: Permission, action: u16, object: u16) -> bool
 }
 
 // What a use of the action on the object asks: the role of its permission.
-pub fn asked_by_use(b: Board, action: u16, object: u16) -> Asked
+fn asked_by_use(b: Board, action: u16, object: u16) -> Asked
     ensures { λ r. ⌜ r ≡ byPermission (find (isFor action object) (view b .permissions)) ⌝ }
 {
     let n = within(b.counts.permissions, Board::PERMISSIONS);
@@ -55,7 +55,7 @@ fn governs(r: Rule, kind: u16, role: u16) -> bool
 }
 
 // What a grant (kind 0) or revoke (kind 1) of the role asks: that the target and the doer meet its rule.
-pub fn asked_by_rule(b: Board, kind: u16, target: u16, role: u16) -> Asked
+fn asked_by_rule(b: Board, kind: u16, target: u16, role: u16) -> Asked
     ensures { λ r. ⌜ r ≡ byRule target (find (governs kind role) (view b .rules)) ⌝ }
 {
     let n = within(b.counts.rules, Board::RULES);
@@ -93,7 +93,7 @@ pub fn held_by(holdings: &[u32; Board::USERS], user: u16) -> u32
 }
 
 // Whether the user holds the role.
-pub fn holds(holdings: &[u32; Board::USERS], user: u16, role: u16) -> bool
+fn holds(holdings: &[u32; Board::USERS], user: u16, role: u16) -> bool
     ensures { λ r. ⌜ r ≡ heldIn (now (holdings .entry)) (user, role) ⌝ }
 {
     roles::holds(held_by(holdings, user), role)

@@ -12,7 +12,7 @@ use Rattle.orders.proofs.Tests.{is-true, and-left, and-right}
 use Rattle.board.specs.declared.Board.{Board}
 use Rattle.board.specs.declared.Duty.{Duty}
 use Rattle.board.specs.After.{withSerial}
-use Rattle.board.specs.Answers.{Answers}
+use Rattle.board.specs.Answers.{Answers, NoneApplies}
 use Rattle.board.specs.Filler.{noDuty, Sized}
 use Rattle.board.specs.Good.{good}
 use Rattle.board.specs.Limits.{maxDuties, maxNext}
@@ -20,7 +20,7 @@ use Rattle.board.specs.Numbers as answer
 use Rattle.board.specs.Saying.{boardSaying}
 use Rattle.board.specs.View.{view}
 use Rattle.board.specs.Windows.{windowFits}
-use Rattle.board.proofs.AnswersLaws.{NoneApplies, done-none}
+use Rattle.board.proofs.AnswersLaws.{done-none}
 use Rattle.board.proofs.SayingLaws.{ViewFits, view-fits, padded-next}
 use Rattle.after.proofs.AfterLaws.{same-permissions, same-rules, same-duties, same-holdings}
 use Rattle.after.proofs.FitsLaws.{NewFits, admitted-fits}

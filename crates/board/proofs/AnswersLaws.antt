@@ -8,7 +8,7 @@ use Prim.Native.Nat.{ℕ}
 use lib.Dec.{eqb}
 use borrow.Author.Tests.{eqb-false}
 use Rattle.orders.proofs.Tests.{not-true, and-left, and-right}
-use Rattle.board.specs.Answers.{Check, Answers}
+use Rattle.board.specs.Answers.{Check, Answers, NoneApplies}
 use Rattle.board.specs.Numbers as answer
 
 pub same-answer : (cs : List Check) (m n : ℕ) → Answers cs m → Answers cs n → m ≡ n
@@ -45,11 +45,6 @@ pub never-answered :
 never-answered k [] n f l a e = f (sym e ∙ a)
 never-answered k (c ∷ cs) n f l (inl a) e = first-lacks k c cs l (sym (a .1) ∙ e)
 never-answered k (c ∷ cs) n f l (inr a) e = never-answered k cs n f (rest-lacks k c cs l) (a .1) e
-
--- no check of the list applies
-abbrev pub NoneApplies : List Check → Type 0
-NoneApplies [] = Unit {0}
-NoneApplies (c ∷ cs) = (c .applies → ⊥) × NoneApplies cs
 
 -- done means that none applied
 pub done-none : (cs : List Check) → Refusing cs → Answers cs answer.done → NoneApplies cs

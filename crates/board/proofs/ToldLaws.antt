@@ -12,20 +12,13 @@ use Rattle.orders.proofs.Tests.{by-test}
 use Rattle.board.specs.declared.Answer.{Answer}
 use Rattle.board.specs.Answers.{plainAnswer}
 use Rattle.board.specs.Numbers as answer
-use Rattle.board.specs.Told.{Told}
+use Rattle.board.specs.Told.{Told, OneOrder}
 use Rattle.board.specs.View.{View}
 
 pub untouched :
     (v : View) (before : List ℕ) (number : ℕ) → (number ≡ answer.red → ⊥)
     → Told v before before (plainAnswer number)
 untouched v before number f = record { red = λ e. absurd (f e); otherwise = λ e. (refl, refl) }
-
--- with 8, both tell of one failing order
-abbrev pub OneOrder :
-    {v : View} {before after after′ : List ℕ} {r r′ : Answer} → Told v before after r
-    → Told v before after′ r′ → Type 0
-OneOrder {r = r} {r′ = r′} p q =
-    (e : r .number ≡ answer.red) (e′ : r′ .number ≡ answer.red) → p .red e .order ≡ q .red e′ .order
 
 module _
     (v : View) (before after after′ : List ℕ) (r r′ : Answer) (same : r .number ≡ r′ .number)

@@ -18,6 +18,11 @@ abbrev pub Answers : List Check → ℕ → Type 0
 Answers [] n = n ≡ answer.done
 Answers (c ∷ cs) n = (c .applies × (n ≡ c .number)) ⊎ ((c .applies → ⊥) × Answers cs n)
 
+-- no check of the list applies: a call is past these checks
+abbrev pub NoneApplies : List Check → Type 0
+NoneApplies [] = Unit {0}
+NoneApplies (c ∷ cs) = (c .applies → ⊥) × NoneApplies cs
+
 -- this number, no serial, no failing order
 abbrev pub plainAnswer : ℕ → Answer
 plainAnswer number = record { number = number; serial = record { 0 = 0 }; length = 0 }

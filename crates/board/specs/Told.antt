@@ -21,3 +21,10 @@ pub record OrderTold (v : View) (before after : List ℕ) (n : ℕ) : Type 0 whe
 pub record Told (v : View) (before after : List ℕ) (r : Answer) : Type 0 where
   pub red : r .number ≡ answer.red → OrderTold v before after (r .length)
   pub otherwise : (r .number ≡ answer.red → ⊥) → (after ≡ before) × (r .length ≡ 0)
+
+-- with 8, both tell of one failing order
+abbrev pub OneOrder :
+    {v : View} {before after after′ : List ℕ} {r r′ : Answer} → Told v before after r
+    → Told v before after′ r′ → Type 0
+OneOrder {r = r} {r′ = r′} p q =
+    (e : r .number ≡ answer.red) (e′ : r′ .number ≡ answer.red) → p .red e .order ≡ q .red e′ .order

@@ -11,13 +11,13 @@ use lib.ListN.{length}
 use Rattle.orders.proofs.Tests.{clash}
 use Rattle.board.specs.declared.Answer.{Answer}
 use Rattle.board.specs.declared.Board.{Board}
-use Rattle.board.specs.Answers.{Check, check, Answers}
+use Rattle.board.specs.Answers.{Check, check, Answers, NoneApplies}
 use Rattle.board.specs.Filler.{smallestBoard}
 use Rattle.board.specs.Good.{good}
 use Rattle.board.specs.Green.{Red}
 use Rattle.board.specs.Limits.{maxDuties}
 use Rattle.board.specs.Numbers as answer
-use Rattle.board.proofs.AnswersLaws.{Lacks, NoneApplies, done-none, never-answered}
+use Rattle.board.proofs.AnswersLaws.{Lacks, done-none, never-answered}
 use Rattle.board.proofs.AnswersLaws.{refused-first, then-second, past-first}
 use Rattle.board.proofs.ToldLaws.{untouched}
 use Rattle.file.specs.Reads.{readChecks, boardOf}

@@ -8,8 +8,9 @@ use lib.ListN.{length}
 use borrow.Author.Tests.{eqb-true, eqb-false}
 use Rattle.orders.proofs.Tests.{by-test}
 use Rattle.board.specs.Numbers as answer
+use Rattle.board.specs.Told.{OneOrder}
 use Rattle.board.proofs.AnswersLaws.{same-answer}
-use Rattle.board.proofs.ToldLaws.{OneOrder, same-told}
+use Rattle.board.proofs.ToldLaws.{same-told}
 use Rattle.calls.specs.declared.Opened.{Opened}
 use Rattle.calls.specs.Opens.{said, openChecks, Opens}
 

@@ -11,13 +11,13 @@ use lib.Dec.{eqb}
 use lib.ListN.{length}
 use borrow.Author.Tests.{eqb-false}
 use Rattle.orders.proofs.Tests.{not-true, and-left, and-right}
-use Rattle.board.specs.Answers.{Check, Answers}
+use Rattle.board.specs.Answers.{Check, Answers, NoneApplies}
 use Rattle.board.specs.Good.{good}
 use Rattle.board.specs.Green.{Green, Red}
 use Rattle.board.specs.Limits.{maxDuties}
 use Rattle.board.specs.Numbers as answer
 use Rattle.board.specs.View.{view}
-use Rattle.board.proofs.AnswersLaws.{NoneApplies, done-none, none-done, none-first, none-second, none-both}
+use Rattle.board.proofs.AnswersLaws.{done-none, none-done, none-first, none-second, none-both}
 use Rattle.board.proofs.AnswersLaws.{lacks, Lacks, same-answer, then-second}
 use Rattle.board.proofs.GoodLaws.{good→records}
 use Rattle.board.proofs.GreenLaws.{green-not-red, red-not-green}

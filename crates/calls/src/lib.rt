@@ -1,4 +1,4 @@
-// The calls on a board, by value: so far open.
+// Opening a board file, by value.
 use board::Answer;
 use board::Board;
 ghost use mathlib.Core.Path.{_≡_};

@@ -16,7 +16,7 @@ use Rattle.board.specs.declared.Answer.{Answer}
 use Rattle.board.specs.declared.Board.{Board}
 use Rattle.board.specs.declared.Duty.{Duty}
 use Rattle.board.specs.After.{acted, withdrawn}
-use Rattle.board.specs.Answers.{Check, Answers, doneAnswer}
+use Rattle.board.specs.Answers.{Check, Answers, doneAnswer, NoneApplies}
 use Rattle.board.specs.Filler.{Sized}
 use Rattle.board.specs.Good.{good, whatFits}
 use Rattle.board.specs.Green.{worldOf}
@@ -25,7 +25,7 @@ use Rattle.board.specs.Open.{OpenWith}
 use Rattle.board.specs.Saying.{boardSaying}
 use Rattle.board.specs.View.{View, view}
 use Rattle.board.specs.Windows.{whollyBefore}
-use Rattle.board.proofs.AnswersLaws.{NoneApplies, done-none, refused-first, then-second, never-answered}
+use Rattle.board.proofs.AnswersLaws.{done-none, refused-first, then-second, never-answered}
 use Rattle.board.proofs.GoodLaws.{good→records, records→range}
 use Rattle.board.proofs.PoolLaws.{duties-pool}
 use Rattle.board.proofs.SayingLaws.{view-fits, view-saying, saying-sized, saying-good}
@@ -38,7 +38,8 @@ use Rattle.outcomes.specs.Outcomes.{Flagged, refusedWith}
 use Rattle.outcomes.proofs.Judging.{refused-flagged}
 use Rattle.pool.proofs.FoundLaws.{FoundOpen}
 use Rattle.requests.specs.declared.AskDo.{AskDo}
-use Rattle.do_duty.specs.Does.{HeldBack, afterDo, doChecks, Does, boardChecks, dutyChecks}
+use Rattle.do_duty.specs.Does.{HeldBack, afterDo, doChecks, Does}
+use Rattle.do_duty.specs.Inside.{boardChecks, dutyChecks}
 
 -- the checks of the duty that is named: 13, 14, 15
 abbrev namedChecks : Board → AskDo → List Check

@@ -2,8 +2,8 @@
 use mathlib.Core.Path.{_≡_}
 use mathlib.Core.Bool.{true, false}
 use mathlib.Core.List.{List, [], _∷_}
-use Prim.Native.Nat.{ℕ, _<_}
-use Rattle.orders.specs.Lists.{Mem, any}
+use Prim.Native.Nat.{_<_}
+use Rattle.orders.specs.Lists.{Mem}
 use Rattle.board.specs.declared.Answer.{Answer}
 use Rattle.board.specs.declared.Board.{Board}
 use Rattle.board.specs.declared.Duty.{Duty}
@@ -43,15 +43,3 @@ doChecks b q =
 -- It answers no serial.
 abbrev pub Does : Board → AskDo → Answer → Board → Type 0
 Does b q r left = Called (doChecks b q) b (afterDo b q) 0 [] [] r left
-
--- ---- inside: the checks before the duty is looked for, and those of the duty d
-
-abbrev pub boardChecks : Board → ℕ → List Check
-boardChecks b clock = check answer.broken (good b ≡ false) ∷ check answer.clock (clock < b .clock) ∷ []
-
-abbrev pub dutyChecks : Board → Duty → ℕ → List Check
-dutyChecks b d clock =
-    check answer.outside (inWindow clock d ≡ false)
-    ∷ check answer.heldBack (any (λ y. whollyBefore y d) (view b .duties) ≡ true)
-    ∷ check answer.notPermitted (permittedNow (view b) (d .doer) (d .what) ≡ false)
-    ∷ []

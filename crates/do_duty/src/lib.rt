@@ -11,7 +11,8 @@ ghost use mathlib.Core.Bool.{true};
 ghost use Rattle.board.specs.Answers.{Answers};
 ghost use Rattle.board.specs.Good.{good};
 ghost use Rattle.outcomes.specs.Outcomes.{Flagged};
-ghost use Rattle.do_duty.specs.Does.{boardChecks, dutyChecks, Does};
+ghost use Rattle.do_duty.specs.Does.{Does};
+ghost use Rattle.do_duty.specs.Inside.{boardChecks, dutyChecks};
 
 // 19, 10, or 0 where neither applies.
 fn board_refusal(b: Board, clock: u32) -> u8

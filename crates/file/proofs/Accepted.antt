@@ -19,7 +19,8 @@ use Rattle.board.specs.Limits.{maxUsers, maxPermissions, maxRules, maxDuties}
 use Rattle.board.specs.Permitted.{below}
 use Rattle.board.specs.View.{View, view}
 use Rattle.board.specs.Windows.{windowFits}
-use Rattle.board.proofs.AnswersLaws.{Refusing, NoneApplies, none-done, none-first, none-second}
+use Rattle.board.specs.Answers.{NoneApplies}
+use Rattle.board.proofs.AnswersLaws.{Refusing, none-done, none-first, none-second}
 use Rattle.board.proofs.InRange.{CountsInRange, counts→range}
 use Rattle.board.proofs.FillerLaws.{FillerBeyond, beyond→filler}
 use Rattle.board.proofs.GoodLaws.{parts→good}

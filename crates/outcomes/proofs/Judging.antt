@@ -11,7 +11,7 @@ use borrow.Author.Tests.{ne-eqb}
 use Rattle.orders.proofs.Tests.{clash}
 use Rattle.board.specs.declared.Answer.{Answer}
 use Rattle.board.specs.declared.Board.{Board}
-use Rattle.board.specs.Answers.{Check, check, Answers, plainAnswer, doneAnswer}
+use Rattle.board.specs.Answers.{Check, check, Answers, plainAnswer, doneAnswer, NoneApplies}
 use Rattle.board.specs.Called.{Called}
 use Rattle.board.specs.Good.{good}
 use Rattle.board.specs.Green.{Red}
@@ -20,7 +20,7 @@ use Rattle.board.specs.Numbers as answer
 use Rattle.board.specs.Saying.{boardSaying}
 use Rattle.board.specs.Told.{Told}
 use Rattle.board.specs.View.{View, view}
-use Rattle.board.proofs.AnswersLaws.{Lacks, NoneApplies, never-answered}
+use Rattle.board.proofs.AnswersLaws.{Lacks, never-answered}
 use Rattle.board.proofs.AnswersLaws.{refused-first, then-second, past-first}
 use Rattle.board.proofs.SayingLaws.{ViewFits, view-saying, saying-good}
 use Rattle.board.proofs.ToldLaws.{untouched}

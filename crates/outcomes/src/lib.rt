@@ -13,7 +13,7 @@ pub struct Outcome {
     pub board: Board,
 }
 
-// Refused with this number.
+// Refused with this number, which is not that of done.
 pub fn refused(b: Board, number: u8) -> Outcome
     ensures { λ r. ⌜ r ≡ refusedWith b number ⌝ }
 {

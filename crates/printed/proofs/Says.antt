@@ -9,11 +9,11 @@ use Prim.Native.Nat.{ℕ, _≤_, _<_}
 use native.Mathlib.Omega.{arith}
 use lib.ListN.{length, take, length-replicate}
 use lib.Seq.{take-at}
-use Rattle.board.specs.Answers.{check}
+use Rattle.board.specs.Answers.{check, NoneApplies}
 use Rattle.board.specs.Green.{Green, Red}
 use Rattle.board.specs.Limits.{maxDuties}
 use Rattle.board.specs.Numbers as answer
-use Rattle.board.proofs.AnswersLaws.{NoneApplies, past-first}
+use Rattle.board.proofs.AnswersLaws.{past-first}
 use Rattle.file.specs.Reads.{readChecks, boardOf}
 use Rattle.line.specs.Line.{yes, no, refused, numbers, newline, lineOf}
 use Rattle.line.proofs.Words.{Begins, done-line, yes-done, no-red, refused-other}
@@ -23,8 +23,8 @@ use Rattle.calls.proofs.Tick.{open-ticks, open-crosses}
 use Rattle.printed.specs.Printed.{cut, lentList, Printed}
 
 -- no check of reading the file applies
-abbrev pub Accepted : List ℕ → Type 0
-Accepted s = NoneApplies (readChecks s)
+abbrev pub Readable : List ℕ → Type 0
+Readable s = NoneApplies (readChecks s)
 
 -- the lent list is long enough
 room : maxDuties ≤ length lentList
@@ -46,14 +46,14 @@ module _ (input before after : List ℕ) (n : ℕ) (p : Printed input before aft
   begins : (word : List ℕ) → Begins word (take n after) ↔ Begins word line
   begins word = (subst (Begins word) printed-is, subst (Begins word) (sym printed-is))
 
-  ticks : (number ≡ answer.done) ↔ (Accepted (cut input) × Green (said (cut input)))
+  ticks : (number ≡ answer.done) ↔ (Readable (cut input) × Green (said (cut input)))
   ticks =
       let t = open-ticks (cut input) lentList (p .list) (p .opened) (p .opens) in (
         λ e. let k = t .0 e in (k .read, k .green),
         λ a. t .1 (record { list = room; read = a .0; green = a .1 }),
       )
 
-  crosses : (number ≡ answer.red) ↔ (Accepted (cut input) × Red (said (cut input)))
+  crosses : (number ≡ answer.red) ↔ (Readable (cut input) × Red (said (cut input)))
   crosses =
       let t = open-crosses (cut input) lentList (p .list) (p .opened) (p .opens) in (
         λ e. let k = t .0 e in (k .read, k .red),
@@ -61,7 +61,7 @@ module _ (input before after : List ℕ) (n : ℕ) (p : Printed input before aft
       )
 
   -- `yes`: accepted and green
-  pub says-yes : Begins yes (take n after) ↔ (Accepted (cut input) × Green (said (cut input)))
+  pub says-yes : Begins yes (take n after) ↔ (Readable (cut input) × Green (said (cut input)))
   says-yes =
       let w = yes-done (p .opened .answer) (p .opened .board .counts .duties) (p .list) in (
         λ b. ticks .0 (w .0 (begins yes .0 b)),
@@ -69,7 +69,7 @@ module _ (input before after : List ℕ) (n : ℕ) (p : Printed input before aft
       )
 
   -- `no`: accepted but for being red
-  pub says-no : Begins no (take n after) ↔ (Accepted (cut input) × Red (said (cut input)))
+  pub says-no : Begins no (take n after) ↔ (Readable (cut input) × Red (said (cut input)))
   says-no =
       let w = no-red (p .opened .answer) (p .opened .board .counts .duties) (p .list) in (
         λ b. crosses .0 (w .0 (begins no .0 b)),
@@ -77,7 +77,7 @@ module _ (input before after : List ℕ) (n : ℕ) (p : Printed input before aft
       )
 
   -- past reading there is no other answer than 8 and 0
-  no-other : Accepted (cut input) → (number ≡ answer.done → ⊥) → (number ≡ answer.red → ⊥) → ⊥
+  no-other : Readable (cut input) → (number ≡ answer.done → ⊥) → (number ≡ answer.red → ⊥) → ⊥
   no-other a d f =
       let short = check answer.list (length lentList < maxDuties) in
       let long-enough : length lentList < maxDuties → ⊥ = λ h. let k = room in omega arith in
@@ -88,7 +88,7 @@ module _ (input before after : List ℕ) (n : ℕ) (p : Printed input before aft
       (p .opens .number))
 
   -- `refused`: not accepted
-  pub says-refused : Begins refused (take n after) ↔ (Accepted (cut input) → ⊥)
+  pub says-refused : Begins refused (take n after) ↔ (Readable (cut input) → ⊥)
   says-refused =
       let w = refused-other (p .opened .answer) (p .opened .board .counts .duties) (p .list) in (
         λ b a. let o = w .0 (begins refused .0 b) in no-other a (o .0) (o .1),
@@ -97,7 +97,7 @@ module _ (input before after : List ℕ) (n : ℕ) (p : Printed input before aft
 
   -- `yes` and the number of duties
   pub yes-line :
-      Accepted (cut input) → Green (said (cut input))
+      Readable (cut input) → Green (said (cut input))
       → take n after ≡ yes ++ (numbers (boardOf (cut input) .counts .duties ∷ []) ++ newline)
   yes-line a g =
       let e = ticks .1 (a, g) in

@@ -4,7 +4,7 @@
 use mathlib.Core.Path.{_≡_, subst}
 use mathlib.Core.List.{List}
 use Prim.Native.Nat.{ℕ}
-use Rattle.board.proofs.ToldLaws.{OneOrder}
+use Rattle.board.specs.Told.{OneOrder}
 use Rattle.line.specs.Line.{lineOf, Put}
 use Rattle.line.proofs.Settled.{same-line}
 use Rattle.calls.specs.declared.Opened.{Opened}

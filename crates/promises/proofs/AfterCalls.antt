@@ -15,14 +15,14 @@ use Rattle.orders.proofs.Tests.{clash, is-false}
 use Rattle.board.specs.declared.Board.{Board}
 use Rattle.board.specs.declared.Duty.{Duty}
 use Rattle.board.specs.After.{named}
-use Rattle.board.specs.Answers.{Check, check}
+use Rattle.board.specs.Answers.{Check, check, NoneApplies}
 use Rattle.board.specs.Filler.{Sized}
 use Rattle.board.specs.Green.{Green, Red, worldOf}
 use Rattle.board.specs.Numbers as answer
 use Rattle.board.specs.Open.{NotOpen, OpenWith}
 use Rattle.board.specs.View.{View, view}
 use Rattle.board.specs.Windows.{whollyBefore}
-use Rattle.board.proofs.AnswersLaws.{NoneApplies, none-first, none-second, then-second}
+use Rattle.board.proofs.AnswersLaws.{none-first, none-second, then-second}
 use Rattle.board.proofs.GreenLaws.{green-not-red}
 use Rattle.board.proofs.SayingLaws.{ViewFits, view-fits}
 use Rattle.requests.specs.declared.AskAdmit.{AskAdmit}

@@ -14,7 +14,7 @@ use Rattle.orders.proofs.Tests.{clash, and-both}
 use Rattle.board.specs.declared.Answer.{Answer}
 use Rattle.board.specs.declared.Board.{Board}
 use Rattle.board.specs.declared.Duty.{Duty}
-use Rattle.board.specs.Answers.{doneAnswer}
+use Rattle.board.specs.Answers.{doneAnswer, NoneApplies}
 use Rattle.board.specs.Green.{worldOf}
 use Rattle.board.specs.Numbers as answer
 use Rattle.board.specs.Open.{OpenWith}
@@ -22,7 +22,7 @@ use Rattle.board.specs.Permitted.{heldIn}
 use Rattle.board.specs.Saying.{boardSaying}
 use Rattle.board.specs.View.{View, view}
 use Rattle.board.specs.Windows.{inWindow}
-use Rattle.board.proofs.AnswersLaws.{NoneApplies, none-done, then-second}
+use Rattle.board.proofs.AnswersLaws.{none-done, then-second}
 use Rattle.board.proofs.PoolLaws.{duty-window}
 use Rattle.board.proofs.SayingLaws.{ViewFits, view-saying}
 use Rattle.board.proofs.ToldLaws.{untouched}

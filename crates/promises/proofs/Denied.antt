@@ -11,14 +11,14 @@ use lib.ListN.{length}
 use Rattle.orders.proofs.Tests.{is-true}
 use Rattle.board.specs.declared.Answer.{Answer}
 use Rattle.board.specs.declared.Board.{Board}
-use Rattle.board.specs.Answers.{Check, check, Answers}
+use Rattle.board.specs.Answers.{Check, check, Answers, NoneApplies}
 use Rattle.board.specs.Filler.{Sized}
 use Rattle.board.specs.Good.{good, recordsFit}
 use Rattle.board.specs.Green.{Red}
 use Rattle.board.specs.Numbers as answer
 use Rattle.board.specs.Told.{Told}
 use Rattle.board.specs.View.{View, view}
-use Rattle.board.proofs.AnswersLaws.{NoneApplies, past-first}
+use Rattle.board.proofs.AnswersLaws.{past-first}
 use Rattle.board.proofs.GoodLaws.{good→records}
 use Rattle.board.proofs.GreenLaws.{green-not-red, red-not-green}
 use Rattle.file.specs.Reads.{boardOf}

@@ -10,14 +10,14 @@ use borrow.Author.Tests.{eqb-true, eqb-false}
 use Rattle.orders.proofs.Tests.{by-test, is-true}
 use Rattle.board.specs.declared.Answer.{Answer}
 use Rattle.board.specs.declared.Board.{Board}
-use Rattle.board.specs.Answers.{Check, Answers}
+use Rattle.board.specs.Answers.{Check, Answers, NoneApplies}
 use Rattle.board.specs.Called.{Called}
 use Rattle.board.specs.Filler.{Sized}
 use Rattle.board.specs.Good.{good}
 use Rattle.board.specs.Numbers as answer
 use Rattle.board.specs.Saying.{boardSaying}
 use Rattle.board.specs.View.{View, view}
-use Rattle.board.proofs.AnswersLaws.{Refusing, NoneApplies, done-none}
+use Rattle.board.proofs.AnswersLaws.{Refusing, done-none}
 use Rattle.board.proofs.SayingLaws.{saying-view}
 use Rattle.verdict.specs.Checked.{checkChecks}
 use Rattle.admit.specs.Admits.{afterAdmit, admitChecks}

@@ -16,7 +16,7 @@ use Rattle.board.specs.Called.{Called}
 use Rattle.board.specs.Numbers as answer
 use Rattle.board.specs.Saying.{boardSaying}
 use Rattle.board.specs.View.{View, view}
-use Rattle.board.proofs.AnswersLaws.{NoneApplies}
+use Rattle.board.specs.Answers.{NoneApplies}
 use Rattle.board.proofs.GoodLaws.{good→records, records→range}
 use Rattle.board.proofs.SayingLaws.{view-saying}
 use Rattle.promises.specs.Calls.{Call, admit, act, doDuty, withdraw, check, Keeps, Made, Calls}

@@ -26,7 +26,7 @@ use Rattle.board.specs.Numbers as answer
 use Rattle.board.specs.Open.{NotOpen}
 use Rattle.board.specs.Saying.{boardSaying}
 use Rattle.board.specs.View.{View, view}
-use Rattle.board.proofs.AnswersLaws.{NoneApplies}
+use Rattle.board.specs.Answers.{NoneApplies}
 use Rattle.board.proofs.CasesHold.{cases-hold}
 use Rattle.board.proofs.InRange.{CountsInRange, counts→range}
 use Rattle.board.proofs.SayingLaws.{ViewFits, saying-sized, saying-good, view-saying}

@@ -45,7 +45,7 @@ pub fn set_fits(set: u32, roles: u16) -> bool
 }
 
 // Whether the action is one of a use, and the object is in range.
-pub fn use_fits(action: u16, object: u16) -> bool
+fn use_fits(action: u16, object: u16) -> bool
     ensures { λ r. ⌜ r ≡ g.useFits action object ⌝ }
 {
     (2 <= action) & ((action < Board::ACTIONS) & (object < Board::OBJECTS))

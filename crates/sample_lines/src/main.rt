@@ -18,14 +18,6 @@ fn number(s: &[u8; 4]) -> usize {
     wide(s[0]) + wide(s[1]) * 256 + wide(s[2]) * 65536 + wide(s[3]) * 16777216
 }
 
-// Fill the room with an input and print its line.
-fn print_line(room: &mut [u8]) {
-    let n = io::read_full(0, room);
-    let mut out = [0u8; line::ROOM];
-    let k = printed::line_for(&room[..n], &mut out);
-    io::write_all(1, &out[..k]);
-}
-
 // Print the line of the next input. False, and nothing printed, if there is none.
 fn next() -> bool {
     let mut length = [0u8; 4];
@@ -38,7 +30,7 @@ fn next() -> bool {
         return false;
     }
     let mut room = [0u8; ROOM];
-    print_line(&mut room[..n]);
+    standard_input::print_line(&mut room[..n]);
     true
 }
 

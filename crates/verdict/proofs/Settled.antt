@@ -7,8 +7,9 @@ use lib.ListN.{length}
 use Rattle.board.specs.declared.Answer.{Answer}
 use Rattle.board.specs.declared.Board.{Board}
 use Rattle.board.specs.View.{view}
+use Rattle.board.specs.Told.{OneOrder}
 use Rattle.board.proofs.AnswersLaws.{same-answer}
-use Rattle.board.proofs.ToldLaws.{OneOrder, same-told}
+use Rattle.board.proofs.ToldLaws.{same-told}
 use Rattle.verdict.specs.Checked.{checkChecks, Checked}
 
 module _

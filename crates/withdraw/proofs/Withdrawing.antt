@@ -8,13 +8,13 @@ use native.Mathlib.Omega.{arith}
 use lib.ListN.{length}
 use Rattle.orders.proofs.Tests.{is-true}
 use Rattle.board.specs.declared.Board.{Board}
-use Rattle.board.specs.Answers.{Answers}
+use Rattle.board.specs.Answers.{Answers, NoneApplies}
 use Rattle.board.specs.Filler.{Sized}
 use Rattle.board.specs.Good.{good}
 use Rattle.board.specs.Limits.{maxDuties}
 use Rattle.board.specs.Numbers as answer
 use Rattle.board.specs.View.{view}
-use Rattle.board.proofs.AnswersLaws.{NoneApplies, done-none}
+use Rattle.board.proofs.AnswersLaws.{done-none}
 use Rattle.board.proofs.SayingLaws.{ViewFits, view-fits}
 use Rattle.after.specs.Boards.{withdrawnBoard}
 use Rattle.after.proofs.AfterLaws.{withdrawn-is}

@@ -12,7 +12,8 @@ use Rattle.board.specs.Good.{good}
 use Rattle.board.specs.View.{view}
 use Rattle.board.proofs.Sized.{sized}
 use Rattle.pool.proofs.FoundLaws.{FoundOpen, found-missing, found-open}
-use Rattle.do_duty.specs.Does.{doChecks, dutyChecks}
+use Rattle.do_duty.specs.Does.{doChecks}
+use Rattle.do_duty.specs.Inside.{dutyChecks}
 use Rattle.do_duty.proofs.Doing.{refused-does, board-answers, whole, past-board, past-open, done-does}
 use Rattle.do_duty.proofs.do_duty.Statement.{statement}
 use Rattle.do_duty.proofs.do_duty.Tie as tie

@@ -5,9 +5,9 @@ use Prim.Native.Nat.{ℕ}
 use native.Mathlib.Omega.{arith}
 use borrow.Author.Needs.{needs}
 use Rattle.board.specs.declared.Board.{Board}
-use Rattle.board.specs.Answers.{Answers}
+use Rattle.board.specs.Answers.{Answers, NoneApplies}
 use Rattle.board.specs.Filler.{smallestBoard}
-use Rattle.board.proofs.AnswersLaws.{NoneApplies, done-none, refused-first, then-second}
+use Rattle.board.proofs.AnswersLaws.{done-none, refused-first, then-second}
 use Rattle.file.specs.Parts.{Complete}
 use Rattle.file.specs.Reads.{headerChecks, recordChecks, readChecks, Reads}
 use Rattle.file.proofs.Accepted.{HeaderPasses, header-passes, header-refuses}

@@ -1,17 +1,14 @@
--- `tick::main` is safe and ends: what is read and what is written lie within their rooms.
+-- What is read and what is written lie within their rooms.
 use borrow.Author.Needs.{needs}
 use Rattle.printed.proofs.Judged.{line-length}
-use Rattle.tick.proofs.main.Statement.{statement}
-use Rattle.tick.proofs.main.Tie as tie
-
-slice-aggregate-read-full : tie.Need-slice-aggregate-read-full
-slice-aggregate-read-full c = search needs
+use Rattle.standard_input.proofs.print_line.Statement.{statement}
+use Rattle.standard_input.proofs.print_line.Tie as tie
 
 read-full-requires : tie.Need-read-full-requires
 read-full-requires c κs = search needs
 
-array-share-prefix-input : tie.Need-array-share-prefix-input
-array-share-prefix-input c = search needs
+slice-reshare-prefix-line-for : tie.Need-slice-reshare-prefix-line-for
+slice-reshare-prefix-line-for c = search needs
 
 slice-aggregate-line-for : tie.Need-slice-aggregate-line-for
 slice-aggregate-line-for c = search needs
@@ -28,19 +25,22 @@ slice-aggregate-write-all c = line-length (c .before .line-for .ensures)
 write-all-requires : tie.Need-write-all-requires
 write-all-requires c κs = search needs
 
+same-length : tie.Need-same-length
+same-length c = search needs
+
 returns : tie.Need-returns
 returns c = search needs
 
-pub main-spec : {M : Type 1} → statement M
-main-spec =
+pub print-line-spec : {M : Type 1} → statement M
+print-line-spec =
     tie.close
     (tie.spec
-    slice-aggregate-read-full
     read-full-requires
-    array-share-prefix-input
+    slice-reshare-prefix-line-for
     slice-aggregate-line-for
     line-for-requires
     array-share-prefix-out
     slice-aggregate-write-all
     write-all-requires
+    same-length
     returns)
