@@ -14,7 +14,8 @@ The lines of a listing, in turn:
     kind NUMBER                                      a record of another kind
     bytes COUNT                                      so many zeros, for an incomplete last record
 At the end of a line FIELD=NUMBER sets a field of the record otherwise; lent is 128 where it is not set.
-`times N` before a line repeats it, and a number A+Bk in it grows by B each time. `#` starts a comment."""
+`times N` before a line repeats it, and a number A+Bk in it grows by B each time. `#` starts a comment.
+People, roles, actions and objects are numbers, times are minutes. A line that does not read so is refused."""
 import os
 import re
 import struct
@@ -29,42 +30,81 @@ EACH_CALL = ('admit 0 use 2 on 0 0 0 at 0 lent=0', 'act 0 use 2 on 0 at 0 lent=0
              'withdraw 0 at 0 lent=0', 'check lent=0')
 
 
+class Slip(Exception):
+    """A line that does not read as a listing's lines do."""
+
+
+def number(word):
+    if not word.isdigit():
+        raise Slip(f'{word} is to be a number')
+    return int(word)
+
+
+def place_in(word, words):
+    if word not in words:
+        raise Slip(f'{word} is to be one of: {" ".join(words)}')
+    return words.index(word)
+
+
+def expect(words, shape):
+    """The numbers of the words, which read as the shape does: a word as it stands, N for a number."""
+    wanted = shape.split()
+    if len(words) != len(wanted):
+        raise Slip(f'expected {shape or "nothing more"}, N a number')
+    for word, want in zip(words, wanted):
+        if want != 'N' and word != want:
+            raise Slip(f'{word} is to be {want}')
+    return [number(word) for word, want in zip(words, wanted) if want == 'N']
+
+
 def doing(words):
     """The fields of what is to be done, by four words."""
+    shapes = {'grant': 'grant N to N', 'revoke': 'revoke N from N', 'use': 'use N on N'}
+    place_in(words[0] if words else 'nothing', list(shapes))
+    thing, other = expect(words, shapes[words[0]])
     if words[0] == 'use':
-        return dict(action=int(words[1]), first=int(words[3]), second=0)
-    return dict(action=('grant', 'revoke').index(words[0]), first=int(words[3]), second=int(words[1]))
+        return dict(action=thing, first=other, second=0)
+    return dict(action=0 if words[0] == 'grant' else 1, first=other, second=thing)
 
 
 def poke(words):
-    if words[0] in COUNTS:
-        return dict(kind=POKE, first=COUNTS.index(words[0]), extra=int(words[1]))
-    return dict(kind=POKE, first=7 + PLACES.index(words[0]), second=int(words[1]), extra=int(words[2]))
+    if words and words[0] in COUNTS:
+        return dict(kind=POKE, first=COUNTS.index(words[0]), extra=expect(words, f'{words[0]} N')[0])
+    which = place_in(words[0] if words else 'nothing', COUNTS + PLACES) - len(COUNTS)
+    second, extra = expect(words, f'{words[0]} N N')
+    return dict(kind=POKE, first=7 + which, second=second, extra=extra)
 
 
 def fields_of(words):
     """The fields of a call in words."""
-    call = words[0]
+    call, rest = words[0], words[1:]
     if call == 'poke':
-        return poke(words[1:])
+        return poke(rest)
     if call == 'kind':
-        return dict(kind=int(words[1]))
-    fields = dict(kind=KINDS.index(call), lent=128)
-    if call in ('admit', 'act'):
-        fields.update(doing(words[2:6]), doer=int(words[1]))
-        if call == 'admit':
-            fields.update(start=int(words[6]), end=int(words[7]))
-    elif call in ('do', 'withdraw'):
-        fields.update(serial=int(words[1]))
-    if call != 'check':
-        fields.update(clock=int(words[words.index('at') + 1]))
+        return dict(kind=expect(rest, 'N')[0])
+    fields = dict(kind=place_in(call, KINDS), lent=128)
+    if call == 'admit':
+        doer, start, end, clock = expect(rest[:1] + rest[5:], 'N N N at N')
+        fields.update(doing(rest[1:5]), doer=doer, start=start, end=end, clock=clock)
+    elif call == 'act':
+        doer, clock = expect(rest[:1] + rest[5:], 'N at N')
+        fields.update(doing(rest[1:5]), doer=doer, clock=clock)
+    elif call == 'check':
+        expect(rest, '')
+    else:
+        fields.update(zip(('serial', 'clock'), expect(rest, 'N at N')))
     return fields
 
 
 def record(words):
     """The 32 bytes of a call in words."""
     fields = fields_of([word for word in words if '=' not in word])
-    fields.update((name, int(value)) for name, value in (word.split('=') for word in words if '=' in word))
+    for name, value in (word.split('=') for word in words if '=' in word):
+        fields[FIELDS[place_in(name, FIELDS)]] = number(value)
+    widths = dict.fromkeys(FIELDS[:6], 16)
+    for name, value in fields.items():
+        if value >> widths.get(name, 32):
+            raise Slip(f'{value} is too large')
     return struct.pack('<6H5I', *(fields.get(name, 0) for name in FIELDS))
 
 
@@ -76,27 +116,35 @@ def turn(word, k):
 def records(words):
     """The bytes of a line."""
     if words[0] == 'times':
-        return b''.join(records([turn(word, k) for word in words[2:]]) for k in range(int(words[1])))
+        return b''.join(records([turn(word, k) for word in words[2:]]) for k in range(number(words[1])))
     if words[0] == 'bytes':
-        return bytes(int(words[1]))
+        return bytes(expect(words, 'bytes N')[0])
     if words[0] == 'broken':
         there, back = ['poke'] + words[1:-2], ['poke'] + words[1:-3] + words[-1:]
         return b''.join(record(call) for call in [there] + [call.split() for call in EACH_CALL] + [back])
     return record(words)
 
 
+def board_file(words, folder):
+    """The board file that the first line names, with its length before it."""
+    if words[0] != 'file' or len(words) != 2:
+        raise Slip('the first line is to be: file PATH')
+    with open(os.path.join(folder, words[1]), 'rb') as file:
+        board = file.read()
+    return struct.pack('<I', len(board)) + board
+
+
 def replay_input(path):
     """The input that a listing says."""
     whole = b''
     with open(path) as listing:
-        for line in listing:
+        for count, line in enumerate(listing, 1):
             words = line.split('#')[0].split()
-            if words and words[0] == 'file':
-                with open(os.path.join(os.path.dirname(path), words[1]), 'rb') as file:
-                    board = file.read()
-                whole += struct.pack('<I', len(board)) + board
-            elif words:
-                whole += records(words)
+            try:
+                if words:
+                    whole += records(words) if whole else board_file(words, os.path.dirname(path))
+            except (Slip, OSError) as slip:
+                raise SystemExit(f'{path}:{count}: {words[0]}: {slip}') from None
     return whole
 
 

@@ -73,6 +73,8 @@ class BoardReader:
         for line in lines:
             if line.words[0] in NAMING:
                 self.read_names(line, NAMING[line.words[0]])
+            else:
+                self.reader_of(line)
         for kind in COUNTED:
             if not self.count(kind):
                 self.first_line.refuse(f'this board has no line {kind.many}')
