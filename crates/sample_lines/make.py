@@ -15,11 +15,12 @@ SAMPLES = os.path.join(HERE, '..', '..', 'samples')
 TICK = os.path.join(HERE, '..', 'tick')
 
 # The sample boards. caseN is case N of document 01 (6b and 9b are the second boards of cases 6 and 9); it
-# prints the verdict and the order, and the number of duties is counted there. On the Saturday, 1 is Mia's use
-# of the bench role and 2 takes that role from her inside her window: in the order 1 2 both are permitted, in
-# 2 1 the use is not. Mended, 2 starts after the end of 1, so 1 2 is the only order. On the open day 6 needs a
-# role that 5 grants, and the two share a minute, so 6 may come once 1, 2 and 3 are done, which are wholly before
-# it; each of these is permitted. It is one of several failing orders: the one that the verdict tells.
+# prints the verdict and the order, and the number of duties is counted there. On the Saturday, 1 is Mia's
+# use of the bench role and 2 takes that role from her inside her window: in the order 1 2 both are
+# permitted, in 2 1 the use is not. Mended, 2 starts after the end of 1, so 1 2 is the only order. On the
+# open day 6 needs a role that 5 grants, and the two share a minute, so 6 may come once 1, 2 and 3 are done,
+# which are wholly before it; each of these is permitted. It is one of several failing orders: the one that
+# the verdict tells.
 SAMPLE_LINES = {
     'case1': 'yes 0', 'case2': 'yes 2', 'case3': 'no 1 2', 'case4': 'yes 2', 'case5': 'no 2 1 2',
     'case6': 'no 2 2 1', 'case6b': 'yes 2', 'case7': 'yes 3', 'case8': 'no 3 2 1 3', 'case9': 'yes 2',
