@@ -15,7 +15,7 @@ use Rattle.board.specs.Limits.{maxDuties}
 use Rattle.board.specs.Numbers as answer
 use Rattle.board.specs.View.{view}
 use Rattle.board.proofs.AnswersLaws.{done-none}
-use Rattle.board.proofs.SayingLaws.{ViewFits, view-fits}
+use Rattle.board.proofs.SayingLaws.{ViewFits, view-fits, saying-good}
 use Rattle.after.specs.Boards.{actedBoard}
 use Rattle.after.proofs.AfterLaws.{acted-is}
 use Rattle.after.proofs.FitsLaws.{acted-fits}
@@ -57,7 +57,7 @@ module _ (b : Board) (size : Sized b) (before : List ℕ) (q : AskAct) (number :
 
   pub judged-acts :
       (next : Board) → next ≡ actedBoard b (q .clock) (whatNow q) → number ≡ answer.done → (after : List ℕ)
-      (r : Outcome) → Judges b next 0 before after r
+      (r : Outcome) → (good next ≡ true → Judges b next 0 before after r)
       → ActsNow b before q (r .answer) (r .board) after × Flagged r
   judged-acts next is passes after r j =
       let earlier = actEarlier b (length before) q in
@@ -67,9 +67,11 @@ module _ (b : Board) (size : Sized b) (before : List ℕ) (q : AskAct) (number :
       let says =
       is
       ∙ acted-is b size (whole b size (length before) q none) (q .clock) (whatNow q)
-      (what-fits b size (length before) q none) in (
-        judged-called earlier b (afterAct b q) 0 before after r none
-            (fits-after b size (length before) q none) room
-            (subst (λ (n : Board). Judges b n 0 before after r) says j),
-        j .flag,
+      (what-fits b size (length before) q none) in
+      let fits = fits-after b size (length before) q none in
+      let judges =
+      subst (λ (n : Board). (good n ≡ true → Judges b n 0 before after r)) says j
+      (saying-good (afterAct b q) fits) in (
+        judged-called earlier b (afterAct b q) 0 before after r none fits room judges,
+        judges .flag,
       )

@@ -2,7 +2,10 @@
 use mathlib.Core.Path.{_≡_, refl, ap}
 use mathlib.Core.Bool.{Bool, true, false, not, _&&_, _||_}
 use mathlib.Core.Logic.{⊎-elim}
+use mathlib.Core.List.{[]}
 use Prim.Native.Nat.{ℕ, _<_}
+use lib.Dec.{eqb}
+use borrow.Author.Tests.{eqb-true}
 use Rattle.orders.specs.Lists.{all}
 use Rattle.orders.proofs.Tests.{clash, is-false, not-true, or-true, or-false, and-true, and-both}
 use Rattle.orders.proofs.Lists.{all-mem, all-in}
@@ -39,6 +42,11 @@ right w b held f g =
     present : b && held ≡ true → ⊥
     present e = let r = and-true b held e in clash (g (r .0)) (ap not (r .1))
 
+-- the empty set has no role
+none-in : rolesIn 0 ≡ []
+unfolding rolesIn
+none-in = refl
+
 module _ (set wanted barred : ℕ) where
   -- the role is wrong in this set
   abbrev pub wrongAt : ℕ → Bool
@@ -55,6 +63,12 @@ module _ (set wanted barred : ℕ) where
 
   abbrev hasNoBarred : Bool
   hasNoBarred = all (λ role. not (inSet set role)) (rolesIn barred)
+
+  -- where no role is wanted and none is barred, the test is passed
+  pub none-named : eqb wanted 0 && eqb barred 0 ≡ true → meetsSets set wanted barred ≡ true
+  none-named e =
+      let both = and-true (eqb wanted 0) (eqb barred 0) e in
+      rw (eqb-true wanted 0 (both .0), eqb-true barred 0 (both .1), none-in) refl
 
   pub none-wrong : ((role : ℕ) → role < maxRoles → wrongAt role ≡ false) → meetsSets set wanted barred ≡ true
   none-wrong f =

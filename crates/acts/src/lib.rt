@@ -6,7 +6,7 @@ use board::Rule;
 use board::What;
 ghost use mathlib.Core.Path.{_≡_};
 ghost use Prim.Native.Nat.{min};
-ghost use lib.ListN.{getD, set};
+ghost use lib.ListN.{getD, set, take};
 ghost use Rattle.orders.specs.Lists.{find};
 ghost use Rattle.board.specs.View.{view};
 ghost use Rattle.board.specs.Permitted.{isFor, governs, byPermission, byRule, askedFor};
@@ -31,14 +31,19 @@ fn is_for(p: Permission, action: u16, object: u16) -> bool
     (p.action == action) & (p.object == object)
 }
 
-// What a use of the action on the object asks: the role of its permission.
-fn asked_by_use(b: Board, action: u16, object: u16) -> Asked
-    ensures { λ r. ⌜ r ≡ byPermission (find (isFor action object) (view b .permissions)) ⌝ }
+// What a use of the action on the object asks: the role of its permission, among the first so many.
+fn asked_by_use(
+    permissions: [Permission; Board::PERMISSIONS],
+    count: u16,
+    action: u16,
+    object: u16,
+) -> Asked
+    ensures { λ r. ⌜ r ≡ byPermission (find (isFor action object) (take count permissions)) ⌝ }
 {
-    let n = within(b.counts.permissions, Board::PERMISSIONS);
+    let n = within(count, Board::PERMISSIONS);
     let mut i: usize = 0;
     while i < n {
-        let p = b.permissions[i];
+        let p = permissions[i];
         if is_for(p, action, object) {
             return Asked::Role(p.role);
         }
@@ -54,14 +59,21 @@ fn governs(r: Rule, kind: u16, role: u16) -> bool
     (r.kind == kind) & (r.role == role)
 }
 
-// What a grant (kind 0) or revoke (kind 1) of the role asks: that the target and the doer meet its rule.
-fn asked_by_rule(b: Board, kind: u16, target: u16, role: u16) -> Asked
-    ensures { λ r. ⌜ r ≡ byRule target (find (governs kind role) (view b .rules)) ⌝ }
+// What a grant (kind 0) or revoke (kind 1) of the role asks: that the target and the doer meet its rule,
+// among the first so many.
+fn asked_by_rule(
+    rules: [Rule; Board::RULES],
+    count: u16,
+    kind: u16,
+    target: u16,
+    role: u16,
+) -> Asked
+    ensures { λ r. ⌜ r ≡ byRule target (find (governs kind role) (take count rules)) ⌝ }
 {
-    let n = within(b.counts.rules, Board::RULES);
+    let n = within(count, Board::RULES);
     let mut i: usize = 0;
     while i < n {
-        let r = b.rules[i];
+        let r = rules[i];
         if governs(r, kind, role) {
             return Asked::Meets { target, rule: r };
         }
@@ -74,10 +86,18 @@ fn asked_by_rule(b: Board, kind: u16, target: u16, role: u16) -> Asked
 pub fn asked_for(b: Board, what: What) -> Asked
     ensures { λ r. ⌜ r ≡ askedFor (view b .permissions) (view b .rules) what ⌝ }
 {
+    let permissions = b.permissions;
+    let rules = b.rules;
+    let counts = b.counts;
     match what {
-        What::Grant { target, role } => asked_by_rule(b, 0, target, role),
-        What::Revoke { target, role } => asked_by_rule(b, 1, target, role),
-        What::Use { action, object } => asked_by_use(b, action, object),
+        What::Grant { target, role } => asked_by_rule(rules, counts.rules, 0, target, role),
+        What::Revoke { target, role } => asked_by_rule(rules, counts.rules, 1, target, role),
+        What::Use { action, object } => asked_by_use(
+            permissions,
+            counts.permissions,
+            action,
+            object,
+        ),
     }
 }
 
@@ -99,10 +119,13 @@ fn holds(holdings: &[u32; Board::USERS], user: u16, role: u16) -> bool
     roles::holds(held_by(holdings, user), role)
 }
 
-// Whether a set has every wanted role and no barred one: role by role.
+// Whether a set has every wanted role and no barred one: at once where none is named, else role by role.
 pub fn meets(set: u32, wanted: u32, barred: u32) -> bool
     ensures { λ r. ⌜ r ≡ meetsSets set wanted barred ⌝ }
 {
+    if (wanted == 0) & (barred == 0) {
+        return true;
+    }
     let mut role: u16 = 0;
     while (role as usize) < Board::ROLES {
         let held = roles::holds(set, role);
@@ -135,7 +158,8 @@ pub fn permitted(b: Board, doer: u16, what: What) -> bool
         (needs doer (askedFor (view b .permissions) (view b .rules) what)) ⌝ }
 {
     let asked = asked_for(b, what);
-    is_met(&b.holdings, doer, asked)
+    let holdings = b.holdings;
+    is_met(&holdings, doer, asked)
 }
 
 // ---- what it changes

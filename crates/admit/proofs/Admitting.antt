@@ -21,7 +21,7 @@ use Rattle.board.specs.Saying.{boardSaying}
 use Rattle.board.specs.View.{view}
 use Rattle.board.specs.Windows.{windowFits}
 use Rattle.board.proofs.AnswersLaws.{done-none}
-use Rattle.board.proofs.SayingLaws.{ViewFits, view-fits, padded-next}
+use Rattle.board.proofs.SayingLaws.{ViewFits, view-fits, padded-next, saying-good}
 use Rattle.after.proofs.AfterLaws.{same-permissions, same-rules, same-duties, same-holdings}
 use Rattle.after.proofs.FitsLaws.{NewFits, admitted-fits}
 use Rattle.outcomes.specs.declared.Outcome.{Outcome}
@@ -138,12 +138,15 @@ module _ (b : Board) (size : Sized b) (before : List ℕ) (q : AskAdmit) (number
 
     pub judged-admits :
         (next : Board) → next ≡ boardSaying (afterAdmit b q) → (after : List ℕ) (r : Outcome)
-        → Judges b next (b .next .0) before after r
+        → (good next ≡ true → Judges b next (b .next .0) before after r)
         → Admits b before q (r .answer) (r .board) after × Flagged r
     judged-admits next is after r j =
         let short = none .1 .0 in
-        let room : maxDuties ≤ length before = omega arith in (
+        let room : maxDuties ≤ length before = omega arith in
+        let judges =
+        subst (λ (n : Board). (good n ≡ true → Judges b n (b .next .0) before after r)) is j
+        (saying-good (afterAdmit b q) fits-after) in (
           judged-called (admitEarlier b (length before) q) b (afterAdmit b q) (b .next .0) before after r none
-              fits-after room (subst (λ (n : Board). Judges b n (b .next .0) before after r) is j),
-          j .flag,
+              fits-after room judges,
+          judges .flag,
         )

@@ -1,6 +1,6 @@
 -- The board value after an act and after a duty is taken out, field by field. That on a good board value they
 -- are the ones that say `acted` and `withdrawn` (crate board, specs/After.antt) is proved in
--- proofs/AfterLaws.antt.
+-- proofs/AfterLaws.antt. After a duty is done: it is taken out, and its change is made.
 use Prim.Native.Nat.{ℕ}
 use lib.ListN.{length}
 use Rattle.board.specs.declared.Board.{Board}
@@ -42,3 +42,6 @@ withdrawnBoard b clock serial =
       rules = b .rules;
       duties = padded noDuty maxDuties (withoutSerial serial (view b .duties));
     }
+
+abbrev pub didBoard : Board → ℕ → ℕ → What → Board
+didBoard b clock serial what = actedBoard (withdrawnBoard b clock serial) clock what

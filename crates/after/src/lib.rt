@@ -1,9 +1,10 @@
-// The board after an act, and after a duty is taken out: nothing else changes.
+// The board after an act, after a duty is taken out, and after a duty is done: nothing else changes. Each is
+// made at once, field by field: a board that is first copied and then changed is copied twice.
 use board::Board;
 use board::Serial;
 use board::What;
 ghost use mathlib.Core.Path.{_≡_};
-ghost use Rattle.after.specs.Boards.{actedBoard, withdrawnBoard};
+ghost use Rattle.after.specs.Boards.{actedBoard, withdrawnBoard, didBoard};
 
 // The board with the change made that this makes, at the clock.
 pub fn acted(b: Board, clock: u32, what: What) -> Board
@@ -11,10 +12,11 @@ pub fn acted(b: Board, clock: u32, what: What) -> Board
 {
     let mut holdings = b.holdings;
     acts::make_change(&mut holdings, what);
-    let mut after = b;
-    after.clock = clock;
-    after.holdings = holdings;
-    after
+    Board {
+        clock,
+        holdings,
+        ..b
+    }
 }
 
 // The board without the duty with the serial, at the clock.
@@ -25,9 +27,33 @@ pub fn withdrawn(b: Board, clock: u32, serial: Serial) -> Board
     let n = b.counts.duties as usize;
     let rest = pool::without_serial(duties, n, serial);
     let left = rest.duties;
-    let mut after = b;
-    after.counts.duties = rest.count;
-    after.clock = clock;
-    after.duties = left;
-    after
+    let mut counts = b.counts;
+    counts.duties = rest.count;
+    Board {
+        counts,
+        clock,
+        duties: left,
+        ..b
+    }
+}
+
+// The board without the duty with the serial and with the change made that this makes, at the clock.
+pub fn did(b: Board, clock: u32, serial: Serial, what: What) -> Board
+    ensures { λ r. ⌜ r ≡ didBoard b clock (serial .0) what ⌝ }
+{
+    let all = b.duties;
+    let count = b.counts.duties as usize;
+    let rest = pool::without_serial(all, count, serial);
+    let others = rest.duties;
+    let mut held = b.holdings;
+    acts::make_change(&mut held, what);
+    let mut fewer = b.counts;
+    fewer.duties = rest.count;
+    Board {
+        counts: fewer,
+        clock,
+        holdings: held,
+        duties: others,
+        ..b
+    }
 }

@@ -1,9 +1,9 @@
 -- The answers of open: the list is too short; the file is refused; the board that it says is red; it is
--- green. In the last two the board is the one that the bytes say, and it is good, so that check answers 8 or
--- 0.
-use mathlib.Core.Path.{_≡_, refl}
+-- green. In the last two the board is the one that the bytes say; it is good, as reading it showed, so that
+-- its check answers 8 or 0.
+use mathlib.Core.Path.{_≡_, refl, subst}
 use mathlib.Core.Logic.{inl, inr}
-use mathlib.Core.Bool.{false}
+use mathlib.Core.Bool.{true, false}
 use mathlib.Core.List.{List, [], _∷_}
 use Prim.Native.Nat.{ℕ, _≤_, _<_}
 use native.Mathlib.Omega.{arith}
@@ -62,14 +62,17 @@ module _ (s before : List ℕ) where
 
     -- the file is read, and check answers r on the board that it says
     module _
-        (board : Board) (after : List ℕ) (r : Answer) (checked : Checked board before after r)
+        (board : Board) (after : List ℕ) (r : Answer)
+        (checked : good board ≡ true → Checked board before after r)
         (accepted : Answers (readChecks s) answer.done) (is : board ≡ boardOf s)
       where
-        it : Checked (boardOf s) before after r
-        it = rw is at checked
-
         none : NoneApplies (readChecks s)
         none = done-none (readChecks s) (read-refuses s) accepted
+
+        it : Checked (boardOf s) before after r
+        it =
+            subst (λ (b : Board). (good b ≡ true → Checked b before after r)) is checked
+            (accepted-good s none)
 
         number : Answers (openChecks s (length before)) (r .number)
         number =

@@ -3,15 +3,16 @@
 -- change, which is the board value that says `did`.
 use mathlib.Core.Path.{_≡_, refl, sym, ap, _∙_, subst}
 use mathlib.Core.Logic.{inl, inr}
-use mathlib.Core.Bool.{true}
+use mathlib.Core.Bool.{Bool, true, false, not}
 use mathlib.Core.List.{List, []}
 use Prim.Native.Nat.{ℕ}
 use native.Mathlib.Omega.{arith}
 use lib.ListN.{drop}
 use Rattle.orders.specs.Lists.{Mem, any}
+use Rattle.orders.specs.Needs.{met}
 use Rattle.orders.proofs.Build.{same-serial}
 use Rattle.orders.proofs.Lists.{any-true, any-mem}
-use Rattle.orders.proofs.Tests.{is-true}
+use Rattle.orders.proofs.Tests.{is-true, clash, not-true, not-false, and-true}
 use Rattle.board.specs.declared.Answer.{Answer}
 use Rattle.board.specs.declared.Board.{Board}
 use Rattle.board.specs.declared.Duty.{Duty}
@@ -19,18 +20,20 @@ use Rattle.board.specs.After.{acted, withdrawn}
 use Rattle.board.specs.Answers.{Check, Answers, doneAnswer, NoneApplies}
 use Rattle.board.specs.Filler.{Sized}
 use Rattle.board.specs.Good.{good, whatFits}
-use Rattle.board.specs.Green.{worldOf}
+use Rattle.board.specs.Green.{worldOf, permittedNow}
 use Rattle.board.specs.Numbers as answer
 use Rattle.board.specs.Open.{OpenWith}
+use Rattle.board.specs.Permitted.{heldIn, askedFor, needs}
 use Rattle.board.specs.Saying.{boardSaying}
 use Rattle.board.specs.View.{View, view}
 use Rattle.board.specs.Windows.{whollyBefore}
 use Rattle.board.proofs.AnswersLaws.{done-none, refused-first, then-second, never-answered}
-use Rattle.board.proofs.GoodLaws.{good→records, records→range}
+use Rattle.board.proofs.GoodLaws.{good→records, good→filler, records→range}
 use Rattle.board.proofs.PoolLaws.{duties-pool}
 use Rattle.board.proofs.SayingLaws.{view-fits, view-saying, saying-sized, saying-good}
 use Rattle.board.proofs.ToldLaws.{untouched}
-use Rattle.after.specs.Boards.{actedBoard, withdrawnBoard}
+use Rattle.acts.proofs.Laws.{permitted-now}
+use Rattle.after.specs.Boards.{actedBoard, didBoard}
 use Rattle.after.proofs.AfterLaws.{acted-is, withdrawn-is}
 use Rattle.after.proofs.FitsLaws.{withdrawn-fits}
 use Rattle.outcomes.specs.declared.Outcome.{Outcome}
@@ -39,7 +42,7 @@ use Rattle.outcomes.proofs.Judging.{refused-flagged}
 use Rattle.pool.proofs.FoundLaws.{FoundOpen}
 use Rattle.requests.specs.declared.AskDo.{AskDo}
 use Rattle.do_duty.specs.Does.{HeldBack, afterDo, doChecks, Does}
-use Rattle.do_duty.specs.Inside.{boardChecks, dutyChecks}
+use Rattle.do_duty.specs.Inside.{boardChecks, timeChecks, dutyChecks}
 
 -- the checks of the duty that is named: 13, 14, 15
 abbrev namedChecks : Board → AskDo → List Check
@@ -64,26 +67,28 @@ module _ (b : Board) (q : AskDo) where
         refused-flagged [] b (afterDo b q) 0 [] number d,
       )
 
-  -- 19 and 10
-  pub board-answers :
-      (number : ℕ) → Answers (boardChecks b (q .clock)) number → (number ≡ answer.done → ⊥)
-      → Answers (doChecks b q) number
-  board-answers number a d = refused-first (boardChecks b (q .clock)) (drop 2 (doChecks b q)) number d a
+  -- 19 and 10, by the test whether the board is good
+  module _ (whole : Bool) (tested : whole ≡ good b) (number : ℕ)
+      (answers : Answers (boardChecks whole (b .clock) (q .clock)) number) where
+    abbrev first : List Check
+    first = boardChecks (good b) (b .clock) (q .clock)
 
-  -- ---- past 19 and 10
+    first-answers : Answers first number
+    first-answers = subst (λ (w : Bool). Answers (boardChecks w (b .clock) (q .clock)) number) tested answers
 
-  module _ (number : ℕ) (answers : Answers (boardChecks b (q .clock)) number)
-      (passes : number ≡ answer.done) where
-    none : NoneApplies (boardChecks b (q .clock))
-    none =
-        let checks = boardChecks b (q .clock) in
-        done-none checks refl (subst (Answers checks) passes answers)
+    pub board-answers : (number ≡ answer.done → ⊥) → Answers (doChecks b q) number
+    board-answers d = refused-first first (drop 2 (doChecks b q)) number d first-answers
 
-    pub whole : good b ≡ true
-    whole = is-true (good b) (none .0)
+    -- past 19 and 10
+    module _ (passes : number ≡ answer.done) where
+      none : NoneApplies first
+      none = done-none first refl (subst (Answers first) passes first-answers)
 
-    pub past-board : (n : ℕ) → Answers (drop 2 (doChecks b q)) n → Answers (doChecks b q) n
-    past-board n a = then-second (boardChecks b (q .clock)) (drop 2 (doChecks b q)) n none a
+      pub good-board : good b ≡ true
+      good-board = is-true (good b) (none .0)
+
+      pub past-board : (n : ℕ) → Answers (drop 2 (doChecks b q)) n → Answers (doChecks b q) n
+      past-board n a = then-second first (drop 2 (doChecks b q)) n none a
 
 -- ---- the duty was found
 
@@ -124,6 +129,33 @@ module _ (b : Board) (is-good : good b ≡ true) (q : AskDo) (d : Duty)
   pub past-open : (n : ℕ) → Answers (dutyChecks b d (q .clock)) n → Answers (drop 2 (doChecks b q)) n
   past-open n a = inr (λ not-open. not-open d (found .open-duty) (found .has-serial), duty-answers n a)
 
+  -- 13 and 14
+  module _ (reason : ℕ) (answers : Answers (timeChecks (v .duties) d (q .clock)) reason) where
+    abbrev last : List Check
+    last = drop 2 (dutyChecks b d (q .clock))
+
+    pub time-answers : (reason ≡ answer.done → ⊥) → Answers (dutyChecks b d (q .clock)) reason
+    time-answers refuses = refused-first (timeChecks (v .duties) d (q .clock)) last reason refuses answers
+
+    -- past 13 and 14: 15, by the test whether it is permitted
+    module _ (passes : reason ≡ answer.done) (may : Bool)
+        (tested : may
+        ≡ met (heldIn (b .holdings)) (needs (d .doer) (askedFor (v .permissions) (v .rules) (d .what)))) where
+      past-time : (n : ℕ) → Answers last n → Answers (dutyChecks b d (q .clock)) n
+      past-time n a =
+          let checks = timeChecks (v .duties) d (q .clock) in
+          then-second checks last n (done-none checks refl (subst (Answers checks) passes answers)) a
+
+      permitted-is : may ≡ permittedNow v (d .doer) (d .what)
+      permitted-is =
+          tested ∙ permitted-now b (and-true _ _ (good→filler b is-good) .0) (d .doer) (d .what)
+
+      pub may-not : not may ≡ true → Answers (dutyChecks b d (q .clock)) answer.notPermitted
+      may-not e = past-time answer.notPermitted (inl (sym permitted-is ∙ not-true may e, refl))
+
+      pub may-do : not may ≡ false → Answers (dutyChecks b d (q .clock)) answer.done
+      may-do e = past-time answer.done (inr (λ f. clash (sym permitted-is ∙ not-false may e) f, refl))
+
   -- ---- accepted
 
   module _ (size : Sized b) where
@@ -137,9 +169,7 @@ module _ (b : Board) (is-good : good b ≡ true) (q : AskDo) (d : Duty)
     unfolding boardSaying
     what-fits = records→range v (good→records b is-good) .duties .each d (found .open-duty) .what
 
-    done-board :
-        actedBoard (withdrawnBoard b (q .clock) (q .serial .0)) (q .clock) (d .what)
-        ≡ boardSaying (afterDo b q)
+    done-board : didBoard b (q .clock) (q .serial .0) (d .what) ≡ boardSaying (afterDo b q)
     done-board =
         let fits = withdrawn-fits v (view-fits b size is-good) (q .clock) (q .serial .0) in
         let w = boardSaying left in
@@ -150,13 +180,11 @@ module _ (b : Board) (is-good : good b ≡ true) (q : AskDo) (d : Duty)
         ∙ ap boardSaying did-is
 
     pub done-does :
-        (a : Answer) (rest next : Board) → a ≡ doneAnswer 0
-        → rest ≡ withdrawnBoard b (q .clock) (q .serial .0)
-        → next ≡ actedBoard rest (q .clock) (d .what) → Answers (doChecks b q) answer.done
+        (a : Answer) (next : Board) → a ≡ doneAnswer 0
+        → next ≡ didBoard b (q .clock) (q .serial .0) (d .what) → Answers (doChecks b q) answer.done
         → Does b q a next × Flagged (record { answer = a; accepted = true; board = next })
-    done-does a rest next is e f answers =
-        let says = f ∙ ap (λ (c : Board). actedBoard c (q .clock) (d .what)) e ∙ done-board in
-        rw (is, says) (
+    done-does a next is made answers =
+        rw (is, made ∙ done-board) (
           record {
             number = answers;
             accepted = λ k. (refl, refl);

@@ -6,43 +6,34 @@ use board::Serial;
 use outcomes::Outcome;
 use pool::Found;
 use requests::AskDo;
-ghost use mathlib.Core.Path.{_≡_};
-ghost use mathlib.Core.Bool.{true};
+ghost use lib.ListN.{take};
 ghost use Rattle.board.specs.Answers.{Answers};
-ghost use Rattle.board.specs.Good.{good};
 ghost use Rattle.outcomes.specs.Outcomes.{Flagged};
 ghost use Rattle.do_duty.specs.Does.{Does};
-ghost use Rattle.do_duty.specs.Inside.{boardChecks, dutyChecks};
+ghost use Rattle.do_duty.specs.Inside.{boardChecks, timeChecks};
 
-// 19, 10, or 0 where neither applies.
-fn board_refusal(b: Board, clock: u32) -> u8
-    ensures { λ r. ⌜ Answers (boardChecks b clock) r ⌝ }
+// 19, where the board is not whole; 10, where the clock is below the least that it may be; or 0.
+fn board_refusal(whole: bool, least: u32, clock: u32) -> u8
+    ensures { λ r. ⌜ Answers (boardChecks whole least clock) r ⌝ }
 {
-    if !records::is_good(b) {
+    if !whole {
         return Answer::BROKEN;
     }
-    if clock < b.clock {
+    if clock < least {
         return Answer::CLOCK;
     }
     Answer::DONE
 }
 
-// For the open duty d: 13, 14, 15, or 0 where none of these applies.
-fn duty_refusal(b: Board, d: Duty, clock: u32) -> u8
-    requires { ⌜ good b ≡ true ⌝ }
-    ensures { λ r. ⌜ Answers (dutyChecks b d clock) r ⌝ }
+// For the duty d, where the first n duties are open: 13, 14, or 0 where neither applies.
+fn time_refusal(duties: [Duty; Board::DUTIES], n: usize, d: Duty, clock: u32) -> u8
+    ensures { λ r. ⌜ Answers (timeChecks (take n duties) d clock) r ⌝ }
 {
     if !windows::in_window(clock, d) {
         return Answer::OUTSIDE;
     }
-    let duties = b.duties;
-    let n = b.counts.duties as usize;
     if pool::is_held_back(duties, n, d) {
         return Answer::HELD_BACK;
-    }
-    let what = d.what;
-    if !acts::permitted(b, d.doer, what) {
-        return Answer::NOT_PERMITTED;
     }
     Answer::DONE
 }
@@ -51,7 +42,8 @@ fn duty_refusal(b: Board, d: Duty, clock: u32) -> u8
 pub fn do_duty(b: Board, q: AskDo) -> Outcome
     ensures { λ r. ⌜ Does b q (r .answer) (r .board) × Flagged r ⌝ }
 {
-    let number = board_refusal(b, q.clock);
+    let whole = records::is_good(b);
+    let number = board_refusal(whole, b.clock, q.clock);
     if number != Answer::DONE {
         return outcomes::refused(b, number);
     }
@@ -62,13 +54,15 @@ pub fn do_duty(b: Board, q: AskDo) -> Outcome
     let Found::Open(d) = found else {
         return outcomes::refused(b, Answer::NOT_OPEN);
     };
-    let reason = duty_refusal(b, d, q.clock);
+    let reason = time_refusal(duties, n, d, q.clock);
     if reason != Answer::DONE {
         return outcomes::refused(b, reason);
     }
-    let left = after::withdrawn(b, q.clock, serial);
     let what = d.what;
-    let board = after::acted(left, q.clock, what);
+    if !acts::permitted(b, d.doer, what) {
+        return outcomes::refused(b, Answer::NOT_PERMITTED);
+    }
+    let board = after::did(b, q.clock, serial, what);
     let none = Serial(0);
     let answer = Answer::done(none);
     Outcome {

@@ -17,4 +17,5 @@ pub mod Fact
 pub mod Walks
 pub mod Lengths
 pub mod TrailFails
+pub mod SameMembers
 pub mod Clock

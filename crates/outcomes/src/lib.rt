@@ -3,6 +3,8 @@ use board::Answer;
 use board::Board;
 use board::Serial;
 ghost use mathlib.Core.Path.{_≡_};
+ghost use mathlib.Core.Bool.{true};
+ghost use Rattle.board.specs.Good.{good};
 ghost use Rattle.outcomes.specs.Outcomes.{refusedWith, Judges};
 
 // The answer, whether the call was accepted, and the board: the one after the call, or where it is refused
@@ -25,11 +27,13 @@ pub fn refused(b: Board, number: u8) -> Outcome
     }
 }
 
-// Judge the board after a call: where it is green the call is accepted, with this serial; else it is refused.
+// Judge the board after a call, which is good: where it is green the call is accepted, with this serial; else
+// it is refused.
 pub fn judged(b: Board, after: Board, serial: Serial, list: &mut [u32]) -> Outcome
-    ensures { λ r. ⌜ Judges b after (serial .0) (now (list .entry)) (now (list .exit)) r ⌝ }
+    ensures { λ r. ⌜
+        (good after ≡ true → Judges b after (serial .0) (now (list .entry)) (now (list .exit)) r) ⌝ }
 {
-    let answer = verdict::check(after, list);
+    let answer = verdict::check_good(after, list);
     if answer.number != Answer::DONE {
         return Outcome {
             answer,

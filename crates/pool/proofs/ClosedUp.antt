@@ -1,17 +1,16 @@
--- The loop of `without_serial`: those of the first i members that pass a test stand at the start of the room,
--- closed up, with filler in the rest. A turn writes the next in the place of the first filler, or nothing.
+-- The loops of `without_serial`: those of the first i members that pass a test stand at the start of the
+-- room, closed up. A turn writes the next behind them, or nothing. Then filler is written behind them.
 use mathlib.Core.Path.{_≡_, refl, sym, _∙_}
 use mathlib.Core.Bool.{Bool, true, false}
-use mathlib.Core.List.{List, [], _∷_, _++_, append-nil}
-use Prim.Native.Nat.{ℕ, suc, _+_, _-_, _≤_, _<_}
-use native.Mathlib.Nat.{sub-zero}
+use mathlib.Core.List.{List, [], _∷_, _++_, append-nil, append-assoc}
+use Prim.Native.Nat.{ℕ, _+_, _-_, _≤_, _<_}
+use native.Mathlib.Nat.{sub-self}
 use native.Mathlib.Numerals.{add-one}
 use native.Mathlib.Omega.{arith}
-use lib.ListN.{length, take, getD, set, replicate, length-append, length-set, length-replicate}
-use lib.Seq.{take-suc, append-snoc, set-append-seam}
+use lib.ListN.{length, take, getD, set, replicate, length-append, length-set, replicate-append-replicate}
+use lib.Seq.{take-suc, take-all, take-suc-set}
 use Rattle.orders.specs.Lists.{keep}
 use Rattle.orders.proofs.Tests.{by-test}
-use Rattle.board.specs.Saying.{padded}
 
 -- ---- one member more
 
@@ -24,59 +23,41 @@ module _ {A : Type 0} (p : A → Bool) where
     keep-more : keep p (take (i + 1) l) ≡ keep p (take i l) ++ keep p (getD l i d ∷ [])
     keep-more = rw (add-one i, take-suc l i d h) (keep-append (take i l) (getD l i d ∷ []))
 
-    keep-one : p (getD l i d) ≡ true → keep p (take (i + 1) l) ≡ keep p (take i l) ++ (getD l i d ∷ [])
+    pub keep-one : p (getD l i d) ≡ true → keep p (take (i + 1) l) ≡ keep p (take i l) ++ (getD l i d ∷ [])
     keep-one t = rw t at keep-more
 
-    keep-none : p (getD l i d) ≡ false → keep p (take (i + 1) l) ≡ keep p (take i l)
+    pub keep-none : p (getD l i d) ≡ false → keep p (take (i + 1) l) ≡ keep p (take i l)
     keep-none f = (rw f at keep-more) ∙ append-nil (keep p (take i l))
 
--- written in the place of the first filler
-padded-one :
-    {A : Type 0} (filler : A) (room : ℕ) (l : List A) (x : A) → length l < room
-    → set (padded filler room l) (length l) x ≡ padded filler room (l ++ (x ∷ []))
-padded-one filler room l x h =
-    let more : room - length l ≡ suc (room - suc (length l)) = omega arith in
-    let longer : length (l ++ (x ∷ [])) ≡ suc (length l) = length-append l (x ∷ []) ∙ add-one (length l) in
-    let rest = replicate (room - suc (length l)) filler in
-    rw (more, longer, append-snoc l x rest) (set-append-seam l filler rest x)
+-- ---- the first loop
 
--- ---- the loop
+-- of the first i members those that pass stand at the start of `out`, closed up, and they are `count`
+pub record ClosedUp {A : Type 0} (p : A → Bool) (room : ℕ) (l out : List A) (count i : ℕ) : Type 0 where
+  pub few : count ≤ i
+  pub long : length out ≡ room
+  pub is : take count out ≡ keep p (take i l)
+  pub counted : count ≡ length (keep p (take i l))
 
--- of the first i members those that pass stand in `out`, closed up, and they are `count`
-pub record ClosedUp
-    {A : Type 0} (p : A → Bool) (filler : A) (room : ℕ) (l out : List A) (count i : ℕ) : Type 0
-  where
-    pub few : count ≤ i
-    pub long : length out ≡ room
-    pub is : out ≡ padded filler room (keep p (take i l))
-    pub counted : count ≡ length (keep p (take i l))
+module _ {A : Type 0} {p : A → Bool} {room : ℕ} {l out : List A} where
+  pub starts : length out ≡ room → ClosedUp p room l out 0 0
+  starts e = record { few = omega arith; long = e; is = refl; counted = refl }
 
-module _ {A : Type 0} {p : A → Bool} {filler : A} {room : ℕ} {l out : List A} where
-  pub starts : out ≡ replicate room filler → ClosedUp p filler room l out 0 0
-  starts e =
-      record {
-        few = omega arith;
-        long = rw e (length-replicate room filler);
-        is = rw (sub-zero room) e;
-        counted = refl;
-      }
-
-  module _ {count i : ℕ} (known : ClosedUp p filler room l out count i) (d : A) (h : i < length l) where
+  module _ {count i : ℕ} (known : ClosedUp p room l out count i) (d : A) (h : i < length l) where
     pub written :
         i < room → p (getD l i d) ≡ true
-        → ClosedUp p filler room l (set out count (getD l i d)) (count + 1) (i + 1)
+        → ClosedUp p room l (set out count (getD l i d)) (count + 1) (i + 1)
     written k t =
         let so-far = keep p (take i l) in
         let x = getD l i d in
-        let fits : length so-far < room = omega arith in
+        let fits : count < length out = omega (arith, known .few, known .long) in
         record {
           few = omega arith;
           long = length-set out count x ∙ known .long;
-          is = rw (keep-one p l i d h t, known .is, known .counted) (padded-one filler room so-far x fits);
+          is = rw (keep-one p l i d h t, ← known .is, add-one count) (take-suc-set out count x fits);
           counted = rw (keep-one p l i d h t, known .counted) (sym (length-append so-far (x ∷ [])));
         }
 
-    pub passed-over : p (getD l i d) ≡ false → ClosedUp p filler room l out count (i + 1)
+    pub passed-over : p (getD l i d) ≡ false → ClosedUp p room l out count (i + 1)
     passed-over f =
         record {
           few = omega arith;
@@ -84,3 +65,49 @@ module _ {A : Type 0} {p : A → Bool} {filler : A} {room : ℕ} {l out : List A
           is = rw (keep-none p l i d h f) (known .is);
           counted = rw (keep-none p l i d h f) (known .counted);
         }
+
+-- ---- the second loop
+
+-- behind the first `count` members of `l`, filler stands up to place k
+pub record FilledUp {A : Type 0} (filler : A) (room count : ℕ) (l out : List A) (k : ℕ) : Type 0 where
+  pub long : length out ≡ room
+  pub from : count ≤ k
+  pub within : k ≤ room
+  pub is : take k out ≡ take count l ++ replicate (k - count) filler
+
+module _ {A : Type 0} {filler : A} {room count : ℕ} {l : List A} where
+  pub fill-starts : length l ≡ room → count ≤ room → FilledUp filler room count l l count
+  fill-starts e h =
+      record {
+        long = e;
+        from = omega arith;
+        within = h;
+        is = rw (sub-self count) (sym (append-nil (take count l)));
+      }
+
+  module _ {out : List A} {k : ℕ} (known : FilledUp filler room count l out k) where
+    pub filled : k < room → FilledUp filler room count l (set out k filler) (k + 1)
+    filled h =
+        record {
+          long = length-set out k filler ∙ known .long;
+          from = omega (arith, known .from);
+          within = omega arith;
+          is =
+              written-one
+              ∙ rw (known .is, one-more)
+              (append-assoc (take count l) (replicate (k - count) filler) (filler ∷ []));
+        }
+      where
+        written-one : take (k + 1) (set out k filler) ≡ take k out ++ (filler ∷ [])
+        written-one = rw (add-one k) (take-suc-set out k filler (rw (known .long) h))
+
+        one-more : replicate (k + 1 - count) filler ≡ replicate (k - count) filler ++ (filler ∷ [])
+        one-more =
+            let more : k + 1 - count ≡ (k - count) + 1 = omega (arith, known .from) in
+            rw more (sym (replicate-append-replicate (k - count) 1 filler))
+
+    -- at the end of the room all is filled
+    pub fill-ends : room ≤ k → out ≡ take count l ++ replicate (room - count) filler
+    fill-ends h =
+        let end : k ≡ room = omega (arith, known .within) in
+        sym (take-all k out (rw (known .long) h)) ∙ known .is ∙ rw end

@@ -1,2 +1,1 @@
-pub mod ByStart
 pub mod Found

@@ -1,18 +1,16 @@
-// The open duties: in order of start, the one with a serial, whether one is wholly before a duty, and those
-// that are left when one is taken out.
+// The open duties: the one with a serial, whether one is wholly before a duty, and those that are left when
+// one is taken out.
 use board::Board;
 use board::Duty;
 use board::Serial;
 ghost use mathlib.Core.Path.{_≡_};
-ghost use mathlib.Core.List.{_++_};
-ghost use lib.ListN.{length, take, drop};
+ghost use lib.ListN.{length, take};
 ghost use Rattle.orders.specs.Lists.{any, find};
 ghost use Rattle.board.specs.After.{named, withoutSerial};
 ghost use Rattle.board.specs.Filler.{noDuty};
 ghost use Rattle.board.specs.Limits.{maxDuties};
 ghost use Rattle.board.specs.Saying.{padded};
 ghost use Rattle.board.specs.Windows.{whollyBefore};
-ghost use Rattle.pool.specs.ByStart.{byStart};
 ghost use Rattle.pool.specs.Found.{found};
 
 // A duty that was looked for, or none.
@@ -25,30 +23,6 @@ pub enum Found {
 pub struct Rest {
     pub duties: [Duty; Board::DUTIES],
     pub count: u16,
-}
-
-// The first n duties in order of start, and the rest left. Each duty in turn is put in among those below it.
-// Both loops stand in one function, so that the array is not copied for each duty.
-pub fn by_start(duties: [Duty; Board::DUTIES], n: usize) -> [Duty; Board::DUTIES]
-    ensures { λ r. ⌜ r ≡ byStart (take n duties) ++ drop n duties ⌝ }
-{
-    let mut out = duties;
-    let mut m: usize = 0;
-    while (m < n) & (m < Board::DUTIES) {
-        let mut held = out[m];
-        let mut k: usize = 0;
-        while k < m {
-            let y = out[k];
-            if held.start < y.start {
-                out[k] = held;
-                held = y;
-            }
-            k += 1;
-        }
-        out[m] = held;
-        m += 1;
-    }
-    out
 }
 
 // Whether a duty has the serial.
@@ -89,13 +63,12 @@ pub fn is_held_back(duties: [Duty; Board::DUTIES], n: usize, d: Duty) -> bool
     false
 }
 
-// The first n duties but the one with the serial, closed up.
+// The first n duties but the one with the serial, closed up; then the rest of the room is filled.
 pub fn without_serial(duties: [Duty; Board::DUTIES], n: usize, serial: Serial) -> Rest
     ensures { λ r. ⌜ (r .duties ≡ padded noDuty maxDuties (withoutSerial (serial .0) (take n duties)))
         × (r .count ≡ length (withoutSerial (serial .0) (take n duties))) ⌝ }
 {
-    let filler = Duty::filler();
-    let mut out = [filler; Board::DUTIES];
+    let mut out = duties;
     let mut count: u16 = 0;
     let mut i: usize = 0;
     while (i < n) & (i < Board::DUTIES) {
@@ -106,6 +79,12 @@ pub fn without_serial(duties: [Duty; Board::DUTIES], n: usize, serial: Serial) -
             count += 1;
         }
         i += 1;
+    }
+    let filler = Duty::filler();
+    let mut k = count as usize;
+    while k < Board::DUTIES {
+        out[k] = filler;
+        k += 1;
     }
     Rest { duties: out, count }
 }

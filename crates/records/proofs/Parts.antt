@@ -1,5 +1,6 @@
--- What the loops over the four parts share. What is left of a part from a place on, after the record before
--- it, tells of the whole part; one place further adds that place's test; past the last place nothing is left.
+-- What the loops over the holdings and the rules share. What is left of a part from a place on, after the
+-- record before it, tells of the whole part; one place further adds that place's test; past the last place
+-- nothing is left.
 use mathlib.Core.Path.{_≡_, refl, sym, _∙_}
 use mathlib.Core.Bool.{Bool, true, false, not, _&&_, _||_}
 use mathlib.Core.List.{List, [], _∷_}

@@ -2,17 +2,20 @@
 -- is stands in the crate board, specs/Good.antt; that both are the same is proved in proofs/Whole.antt.)
 use mathlib.Core.Bool.{Bool, true, _&&_, _||_, cond}
 use mathlib.Core.List.{List}
-use Prim.Native.Nat.{ℕ}
+use Prim.Native.Nat.{ℕ, _+_, _*_}
 use lib.Dec.{eqb, ltb}
 use lib.ListN.{take, drop}
 use Rattle.orders.specs.Lists.{all}
-use Rattle.board.specs.declared.Board.{Board}
 use Rattle.board.specs.declared.Counts.{Counts}
 use Rattle.board.specs.declared.Duty.{Duty}
 use Rattle.board.specs.declared.Permission.{Permission}
 use Rattle.board.specs.declared.Rule.{Rule}
 use Rattle.board.specs.Good as g
 use Rattle.board.specs.Windows.{windowFits}
+
+-- a pair of numbers as one number
+abbrev pub join : ℕ → ℕ → ℕ
+join a b = a * 65536 + b
 
 -- what is asked of a part: a record fits; it is above the one before it; this is filler
 pub record Tests (A : Type 0) : Type 0 where
@@ -28,6 +31,21 @@ place t count i previous x =
 -- the records up to the count are right, and beyond it stands the filler
 unfoldable pub partGood : {A : Type 0} → Tests A → ℕ → List A → Bool
 partGood t count l = g.partFits (t .fits) (t .below) (take count l) && all (t .filler) (drop count l)
+
+-- ---- the tests of records by keys that rise
+
+-- the role of a permission is in range, and its action and object are above those before
+abbrev pub permissionClimbs : ℕ → ℕ → Permission → Bool
+permissionClimbs roles previous p =
+    ltb (p .role) roles && ltb previous (join (p .action) (p .object))
+
+-- the fields of a duty but its serial are in range, and its window fits
+abbrev pub besideSerial : ℕ → ℕ → Duty → Bool
+besideSerial users roles d = ltb (d .doer) users && (g.whatFits users roles (d .what) && windowFits d)
+
+-- and its serial is above the one before
+abbrev pub dutyClimbs : ℕ → ℕ → ℕ → Duty → Bool
+dutyClimbs users roles previous d = besideSerial users roles d && ltb previous (d .serial .0)
 
 -- ---- the four parts
 
@@ -49,15 +67,3 @@ dutyTests n next =
       below = g.dutyBelow;
       filler = g.isNoDuty;
     }
-
-abbrev pub holdingsGood : Board → Bool
-holdingsGood b = partGood (holdingTests (b .counts .roles)) (b .counts .users) (b .holdings)
-
-abbrev pub permissionsGood : Board → Bool
-permissionsGood b = partGood (permissionTests (b .counts .roles)) (b .counts .permissions) (b .permissions)
-
-abbrev pub rulesGood : Board → Bool
-rulesGood b = partGood (ruleTests (b .counts .roles)) (b .counts .rules) (b .rules)
-
-abbrev pub dutiesGood : Board → Bool
-dutiesGood b = partGood (dutyTests (b .counts) (b .next .0)) (b .counts .duties) (b .duties)

@@ -8,10 +8,11 @@ use board::Rule;
 use board::Serial;
 use board::What;
 ghost use mathlib.Core.Path.{_≡_};
+ghost use Prim.Native.Nat.{_<_};
 ghost use Rattle.board.specs.Doing.{whatOf, secondFits};
 ghost use Rattle.board.specs.Good as g;
-ghost use Rattle.records.specs.Places.{place, holdingTests, permissionTests, ruleTests, dutyTests};
-ghost use Rattle.records.specs.Places.{holdingsGood, permissionsGood, rulesGood, dutiesGood};
+ghost use Rattle.records.specs.Places.{join, place, partGood, permissionClimbs, dutyClimbs};
+ghost use Rattle.records.specs.Places.{holdingTests, permissionTests, ruleTests, dutyTests};
 
 // ---- counts
 
@@ -87,11 +88,18 @@ pub fn duty_fits(d: Duty, users: u16, roles: u16, next: Serial) -> bool
     (0 < serial.0) & ((serial.0 < next.0) & ((d.doer < users) & what_fits(what, users, roles)))
 }
 
+// A pair of numbers as one number: by the first and then by the second, pairs are ordered as these are.
+fn joined(a: u16, b: u16) -> u32
+    ensures { λ r. ⌜ r ≡ join a b ⌝ }
+{
+    a as u32 * 65536 + (b as u32)
+}
+
 // Whether one pair of numbers is below another, by the first and then by the second.
 fn pair_below(a: u16, b: u16, c: u16, d: u16) -> bool
     ensures { λ r. ⌜ r ≡ g.pairBelow a b c d ⌝ }
 {
-    (a < c) | ((a == c) & (b < d))
+    joined(a, b) < joined(c, d)
 }
 
 // Whether a permission is below another, by action and then object.
@@ -195,16 +203,6 @@ fn holding_place(set: u32, i: usize, count: usize, roles: u16) -> bool
     }
 }
 
-fn permission_place(p: Permission, previous: Permission, i: usize, count: usize, roles: u16) -> bool
-    ensures { λ r. ⌜ r ≡ place (permissionTests roles) count i previous p ⌝ }
-{
-    if i < count {
-        permission_fits(p, roles) & ((i == 0) | permission_below(previous, p))
-    } else {
-        is_no_permission(p)
-    }
-}
-
 fn rule_place(r: Rule, previous: Rule, i: usize, count: usize, roles: u16) -> bool
     ensures { λ x. ⌜ x ≡ place (ruleTests roles) count i previous r ⌝ }
 {
@@ -215,28 +213,14 @@ fn rule_place(r: Rule, previous: Rule, i: usize, count: usize, roles: u16) -> bo
     }
 }
 
-fn duty_place(d: Duty, previous: Duty, i: usize, counts: Counts, next: Serial) -> bool
-    ensures { λ r. ⌜ r ≡ place (dutyTests counts (next .0)) (counts .duties) i previous d ⌝ }
-{
-    let count = counts.duties as usize;
-    if i < count {
-        (duty_fits(d, counts.users, counts.roles, next) & windows::window_fits(d))
-            & ((i == 0) | duty_below(previous, d))
-    } else {
-        is_no_duty(d)
-    }
-}
+// ---- the parts: each scan takes its own array, so that no board is copied for it
 
-// ---- the parts
-
-fn holdings_good(b: Board) -> bool
-    ensures { λ r. ⌜ r ≡ holdingsGood b ⌝ }
+fn holdings_good(holdings: [u32; Board::USERS], count: usize, roles: u16) -> bool
+    ensures { λ r. ⌜ r ≡ partGood (holdingTests roles) count holdings ⌝ }
 {
-    let count = b.counts.users as usize;
-    let roles = b.counts.roles;
     let mut i: usize = 0;
     while i < Board::USERS {
-        let set = b.holdings[i];
+        let set = holdings[i];
         if !holding_place(set, i, count, roles) {
             return false;
         }
@@ -245,33 +229,53 @@ fn holdings_good(b: Board) -> bool
     true
 }
 
-fn permissions_good(b: Board) -> bool
-    ensures { λ r. ⌜ r ≡ permissionsGood b ⌝ }
+// Just below the least action and object that a permission may have, as one number.
+const BELOW_ALL: u32 = 2 * 65536 - 1;
+
+// And just above the greatest.
+const ABOVE_ALL: u32 = Board::ACTIONS as u32 * 65536;
+
+// Whether the role of a permission is in range, and its action and object are above those before.
+fn permission_climbs(p: Permission, previous: u32, roles: u16) -> bool
+    ensures { λ r. ⌜ r ≡ permissionClimbs roles previous p ⌝ }
 {
-    let count = b.counts.permissions as usize;
-    let roles = b.counts.roles;
-    let mut previous = b.permissions[0];
-    let mut i: usize = 0;
-    while i < Board::PERMISSIONS {
-        let p = b.permissions[i];
-        if !permission_place(p, previous, i, count, roles) {
-            return false;
-        }
-        previous = p;
-        i += 1;
-    }
-    true
+    (p.role < roles) & (previous < joined(p.action, p.object))
 }
 
-fn rules_good(b: Board) -> bool
-    ensures { λ r. ⌜ r ≡ rulesGood b ⌝ }
+// Action and object, as one number, rise: so the first alone can be too low and the last alone too high. No
+// object is too high if all of them together, bit by bit, are not, since their limit is a power of two.
+fn permissions_good(permissions: [Permission; Board::PERMISSIONS], count: usize, roles: u16) -> bool
+    ensures { λ r. ⌜ r ≡ partGood (permissionTests roles) count permissions ⌝ }
 {
-    let count = b.counts.rules as usize;
-    let roles = b.counts.roles;
-    let mut previous = b.rules[0];
+    let mut previous = BELOW_ALL;
+    let mut objects: u16 = 0;
+    let mut i: usize = 0;
+    while (i < count) & (i < Board::PERMISSIONS) {
+        let p = permissions[i];
+        if !permission_climbs(p, previous, roles) {
+            return false;
+        }
+        objects = objects | p.object;
+        previous = joined(p.action, p.object);
+        i += 1;
+    }
+    while i < Board::PERMISSIONS {
+        let p = permissions[i];
+        if !is_no_permission(p) {
+            return false;
+        }
+        i += 1;
+    }
+    (previous < ABOVE_ALL) & (objects < Board::OBJECTS)
+}
+
+fn rules_good(rules: [Rule; Board::RULES], count: usize, roles: u16) -> bool
+    ensures { λ r. ⌜ r ≡ partGood (ruleTests roles) count rules ⌝ }
+{
+    let mut previous = rules[0];
     let mut i: usize = 0;
     while i < Board::RULES {
-        let r = b.rules[i];
+        let r = rules[i];
         if !rule_place(r, previous, i, count, roles) {
             return false;
         }
@@ -281,22 +285,41 @@ fn rules_good(b: Board) -> bool
     true
 }
 
-fn duties_good(b: Board) -> bool
-    ensures { λ r. ⌜ r ≡ dutiesGood b ⌝ }
+// Whether the serial of a duty is above the one before, its other fields are in range and its window fits.
+fn duty_climbs(d: Duty, previous: u32, users: u16, roles: u16) -> bool
+    ensures { λ r. ⌜ r ≡ dutyClimbs users roles previous d ⌝ }
 {
-    let counts = b.counts;
-    let next = b.next;
-    let mut previous = b.duties[0];
+    let serial = d.serial;
+    let what = d.what;
+    ((d.doer < users) & (what_fits(what, users, roles) & windows::window_fits(d)))
+        & (previous < serial.0)
+}
+
+// Serials rise: so the first alone can be 0 and the last alone too high.
+fn duties_good(duties: [Duty; Board::DUTIES], counts: Counts, next: Serial) -> bool
+    requires { ⌜ 0 < next .0 ⌝ }
+    ensures { λ r. ⌜ r ≡ partGood (dutyTests counts (next .0)) (counts .duties) duties ⌝ }
+{
+    let count = counts.duties as usize;
+    let mut previous: u32 = 0;
     let mut i: usize = 0;
-    while i < Board::DUTIES {
-        let d = b.duties[i];
-        if !duty_place(d, previous, i, counts, next) {
+    while (i < count) & (i < Board::DUTIES) {
+        let d = duties[i];
+        if !duty_climbs(d, previous, counts.users, counts.roles) {
             return false;
         }
-        previous = d;
+        let serial = d.serial;
+        previous = serial.0;
         i += 1;
     }
-    true
+    while i < Board::DUTIES {
+        let d = duties[i];
+        if !is_no_duty(d) {
+            return false;
+        }
+        i += 1;
+    }
+    previous < next.0
 }
 
 // Whether a board value keeps every rule of the board file and holds the filler beyond each count.
@@ -305,6 +328,15 @@ pub fn is_good(b: Board) -> bool
 {
     let counts = b.counts;
     let next = b.next;
-    counts_fit(counts, next)
-        & (holdings_good(b) & (permissions_good(b) & (rules_good(b) & duties_good(b))))
+    if !counts_fit(counts, next) {
+        return false;
+    }
+    let holdings = b.holdings;
+    let permissions = b.permissions;
+    let rules = b.rules;
+    let duties = b.duties;
+    let roles = counts.roles;
+    holdings_good(holdings, counts.users as usize, roles)
+        & (permissions_good(permissions, counts.permissions as usize, roles)
+            & (rules_good(rules, counts.rules as usize, roles) & duties_good(duties, counts, next)))
 }

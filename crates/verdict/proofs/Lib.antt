@@ -1,10 +1,3 @@
-pub mod MostAndLeast
-pub mod Alone
-pub mod Places
-pub mod Spoiled
-pub mod Troubles
-pub mod Walks
-pub mod Cutting
 pub mod Judging
 pub mod Answered
 pub mod Settled

@@ -1,4 +1,2 @@
-pub mod Tests
-pub mod Walking
 pub mod Judging
 pub mod Checked

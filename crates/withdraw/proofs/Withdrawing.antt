@@ -15,7 +15,7 @@ use Rattle.board.specs.Limits.{maxDuties}
 use Rattle.board.specs.Numbers as answer
 use Rattle.board.specs.View.{view}
 use Rattle.board.proofs.AnswersLaws.{done-none}
-use Rattle.board.proofs.SayingLaws.{ViewFits, view-fits}
+use Rattle.board.proofs.SayingLaws.{ViewFits, view-fits, saying-good}
 use Rattle.after.specs.Boards.{withdrawnBoard}
 use Rattle.after.proofs.AfterLaws.{withdrawn-is}
 use Rattle.after.proofs.FitsLaws.{withdrawn-fits}
@@ -52,7 +52,7 @@ module _ (b : Board) (size : Sized b) (before : List ℕ) (q : AskWithdraw) (num
 
   pub judged-withdraws :
       (next : Board) → next ≡ withdrawnBoard b (q .clock) (q .serial .0) → number ≡ answer.done
-      → (after : List ℕ) (r : Outcome) → Judges b next 0 before after r
+      → (after : List ℕ) (r : Outcome) → (good next ≡ true → Judges b next 0 before after r)
       → Withdraws b before q (r .answer) (r .board) after × Flagged r
   judged-withdraws next is passes after r j =
       let earlier = withdrawEarlier b (length before) q in
@@ -60,9 +60,11 @@ module _ (b : Board) (size : Sized b) (before : List ℕ) (q : AskWithdraw) (num
       let short = none .1 .0 in
       let room : maxDuties ≤ length before = omega arith in
       let says =
-      is ∙ withdrawn-is b size (whole b size (length before) q none) (q .clock) (q .serial .0) in (
-        judged-called earlier b (afterWithdraw b q) 0 before after r none
-            (fits-after b size (length before) q none) room
-            (subst (λ (n : Board). Judges b n 0 before after r) says j),
-        j .flag,
+      is ∙ withdrawn-is b size (whole b size (length before) q none) (q .clock) (q .serial .0) in
+      let fits = fits-after b size (length before) q none in
+      let judges =
+      subst (λ (n : Board). (good n ≡ true → Judges b n 0 before after r)) says j
+      (saying-good (afterWithdraw b q) fits) in (
+        judged-called earlier b (afterWithdraw b q) 0 before after r none fits room judges,
+        judges .flag,
       )

@@ -6,22 +6,23 @@ use borrow.Author.Needs.{needs}
 use lib.ListN.{length}
 use Rattle.orders.proofs.Search.{Left, hit, skip, over}
 use Rattle.board.specs.Permitted.{governs, byRule}
-use Rattle.board.proofs.Sized.{sized}
+use Rattle.board.specs.Limits.{maxRules}
 use Rattle.acts.proofs.asked_by_rule.Statement.{statement}
 use Rattle.acts.proofs.asked_by_rule.Tie as tie
 
 abbrev Inv-loop : tie.InvT-loop
-Inv-loop kind target role b n i₀ i =
-    (i ≤ n) × Left (governs kind role) (b .rules) (b .counts .rules) i
+Inv-loop count kind target role rules n i₀ i = (i ≤ n) × Left (governs kind role) rules count i
 
 abbrev μ-loop : tie.MeasureT-loop
-μ-loop kind target role b n i₀ i = n - i
+μ-loop count kind target role rules n i₀ i = n - i
 
 -- the loop goes up to the lesser of the count and the room
 bound :
     (c : tie.After-within Inv-loop μ-loop) →
-    let b = c .before .args .t1 in c .within .result ≡ min (b .counts .rules) (length (b .rules))
-bound c = rw (sized (c .before .args .t1) _ (c .before .good .0) .rules) (c .within .ensures)
+    let s = c .before .args in c .within .result ≡ min (s .count) (length (s .t1))
+bound c =
+    let long : length (c .before .args .t1) ≡ maxRules = search needs in
+    rw long (c .within .ensures)
 
 within-requires : tie.Need-within-requires Inv-loop μ-loop
 within-requires c κs = search needs
@@ -32,8 +33,8 @@ loop-holds c = search needs
 mul-r : tie.Need-mul-r Inv-loop μ-loop
 mul-r c = search needs
 
-element-copy-out-r : tie.Need-element-copy-out-r Inv-loop μ-loop
-element-copy-out-r c = search needs
+array-copy-out-r : tie.Need-array-copy-out-r Inv-loop μ-loop
+array-copy-out-r c = search needs
 
 governs-requires : tie.Need-governs-requires Inv-loop μ-loop
 governs-requires c κs = search needs
@@ -74,7 +75,7 @@ asked-by-rule-spec =
     within-requires
     loop-holds
     mul-r
-    element-copy-out-r
+    array-copy-out-r
     governs-requires
     returns
     add-i

@@ -6,22 +6,23 @@ use borrow.Author.Needs.{needs}
 use lib.ListN.{length}
 use Rattle.orders.proofs.Search.{Left, hit, skip, over}
 use Rattle.board.specs.Permitted.{isFor, byPermission}
-use Rattle.board.proofs.Sized.{sized}
+use Rattle.board.specs.Limits.{maxPermissions}
 use Rattle.acts.proofs.asked_by_use.Statement.{statement}
 use Rattle.acts.proofs.asked_by_use.Tie as tie
 
 abbrev Inv-loop : tie.InvT-loop
-Inv-loop action object b n i₀ i =
-    (i ≤ n) × Left (isFor action object) (b .permissions) (b .counts .permissions) i
+Inv-loop count action object permissions n i₀ i = (i ≤ n) × Left (isFor action object) permissions count i
 
 abbrev μ-loop : tie.MeasureT-loop
-μ-loop action object b n i₀ i = n - i
+μ-loop count action object permissions n i₀ i = n - i
 
 -- the loop goes up to the lesser of the count and the room
 bound :
     (c : tie.After-within Inv-loop μ-loop) →
-    let b = c .before .args .t1 in c .within .result ≡ min (b .counts .permissions) (length (b .permissions))
-bound c = rw (sized (c .before .args .t1) _ (c .before .good .0) .permissions) (c .within .ensures)
+    let s = c .before .args in c .within .result ≡ min (s .count) (length (s .t1))
+bound c =
+    let long : length (c .before .args .t1) ≡ maxPermissions = search needs in
+    rw long (c .within .ensures)
 
 within-requires : tie.Need-within-requires Inv-loop μ-loop
 within-requires c κs = search needs
@@ -32,8 +33,8 @@ loop-holds c = search needs
 mul-p : tie.Need-mul-p Inv-loop μ-loop
 mul-p c = search needs
 
-element-copy-out-p : tie.Need-element-copy-out-p Inv-loop μ-loop
-element-copy-out-p c = search needs
+array-copy-out-p : tie.Need-array-copy-out-p Inv-loop μ-loop
+array-copy-out-p c = search needs
 
 is-for-requires : tie.Need-is-for-requires Inv-loop μ-loop
 is-for-requires c κs = search needs
@@ -74,7 +75,7 @@ asked-by-use-spec =
     within-requires
     loop-holds
     mul-p
-    element-copy-out-p
+    array-copy-out-p
     is-for-requires
     returns
     add-i

@@ -18,7 +18,7 @@ returns c =
     let a = c .before .before .before .before .args in
     c .is-met .ensures
     ∙ ap
-    (λ (asked : Asked). met (heldIn (a .t1 .holdings)) (needsOf (a .doer) asked))
+    (λ (asked : Asked). met (heldIn (a .b .holdings)) (needsOf (a .doer) asked))
     (c .before .before .before .asked-for .ensures)
 
 pub permitted-spec : {M : Type 1} → statement M

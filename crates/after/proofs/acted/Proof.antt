@@ -11,7 +11,9 @@ make-change-requires c κs = search needs
 
 returns : tie.Need-returns
 unfolding actedBoard
-returns c = rw (← c .make-change .ensures) refl
+returns c =
+    let changed = c .before .before .before .before .before in
+    rw (← changed .make-change .ensures) refl
 
 pub acted-spec : {M : Type 1} → statement M
 acted-spec = tie.close (tie.spec make-change-requires returns)

@@ -15,7 +15,8 @@ without-serial-requires c κs = search needs
 returns : tie.Need-returns
 unfolding withdrawnBoard
 returns c =
-    let rest = c .before .before .without-serial .ensures in
+    let counted = c .before .before .before .before in
+    let rest = counted .before .before .without-serial .ensures in
     rw (← rest .0, ← rest .1) refl
 
 pub withdrawn-spec : {M : Type 1} → statement M

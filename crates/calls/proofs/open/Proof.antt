@@ -51,8 +51,8 @@ returns-2 c =
     (c .refused2 .ensures)
     (not-read _ _ (reading .before .if1 .left) _ (reading .read .ensures .number) (c .before .if2 .taken))
 
-check-requires : tie.Need-check-requires
-check-requires c κs = search needs
+check-good-requires : tie.Need-check-good-requires
+check-good-requires c κs = search needs
 
 smallest-requires : tie.Need-smallest-requires
 smallest-requires c κs = search needs
@@ -70,8 +70,8 @@ returns-3 c =
     (room read)
     _
     _
-    (judged .check .result)
-    (judged .check .ensures)
+    (judged .check-good .result)
+    (judged .check-good .ensures)
     (accepted read)
     (is-said read)
     (c .before .if3 .taken)
@@ -91,8 +91,8 @@ returns-4 c =
     (room read)
     _
     _
-    (judged .check .result)
-    (judged .check .ensures)
+    (judged .check-good .result)
+    (judged .check-good .ensures)
     (accepted read)
     (is-said read)
     (c .if3 .left)
@@ -106,7 +106,7 @@ open-spec =
     read-requires
     refused-requires-2
     returns-2
-    check-requires
+    check-good-requires
     smallest-requires
     same-length
     returns-3

@@ -1,10 +1,11 @@
 -- `do_duty::do_duty` meets its contract: 19 or 10; 12, where the search finds none; 13, 14 or 15 of the
 -- duty found; or it is taken out and its change made.
-use mathlib.Core.Path.{_≡_, refl, sym, _∙_, subst}
+use mathlib.Core.Path.{_≡_, refl, sym, _∙_}
 use mathlib.Core.Logic.{inl}
 use mathlib.Core.Bool.{true}
 use Prim.Native.Nat.{ℕ}
 use native.Mathlib.Omega.{arith}
+use lib.ListN.{drop}
 use borrow.Author.Needs.{needs}
 use Rattle.board.specs.declared.Duty.{Duty}
 use Rattle.board.specs.Answers.{Answers}
@@ -14,19 +15,32 @@ use Rattle.board.proofs.Sized.{sized}
 use Rattle.pool.proofs.FoundLaws.{FoundOpen, found-missing, found-open}
 use Rattle.do_duty.specs.Does.{doChecks}
 use Rattle.do_duty.specs.Inside.{dutyChecks}
-use Rattle.do_duty.proofs.Doing.{refused-does, board-answers, whole, past-board, past-open, done-does}
+use Rattle.do_duty.proofs.Doing.{refused-does, board-answers, good-board, past-board, past-open}
+use Rattle.do_duty.proofs.Doing.{time-answers, may-not, may-do, done-does}
 use Rattle.do_duty.proofs.do_duty.Statement.{statement}
 use Rattle.do_duty.proofs.do_duty.Tie as tie
 
 -- ---- past 19 and 10
 
 abbrev start : tie.Else1 → tie.Start
-start c = c .before .before
+start c = c .before .before .before
 
 good-here : (c : tie.Else1) → good (start c .args .b) ≡ true
 good-here c =
-    whole (start c .args .b) (start c .args .q) (c .before .board-refusal .result)
-    (c .before .board-refusal .ensures) (c .if1 .left)
+    let tested = c .before .before .is-good in
+    let number = c .before .board-refusal in
+    good-board (start c .args .b) (start c .args .q) (tested .result) (tested .ensures) (number .result)
+    (number .ensures) (c .if1 .left)
+
+past-here :
+    (c : tie.Else1) (n : ℕ)
+    → let s = start c .args in
+    Answers (drop 2 (doChecks (s .b) (s .q))) n → Answers (doChecks (s .b) (s .q)) n
+past-here c =
+    let tested = c .before .before .is-good in
+    let number = c .before .board-refusal in
+    past-board (start c .args .b) (start c .args .q) (tested .result) (tested .ensures) (number .result)
+    (number .ensures) (c .if1 .left)
 
 -- ---- the duty was found
 
@@ -54,11 +68,12 @@ answers-here :
 answers-here c n a =
     let p = passed c in
     let s = start p in
-    let tested = p .before .board-refusal in
-    past-board (s .args .b) (s .args .q) (tested .result) (tested .ensures) (p .if1 .left) n
-    (past-open (s .args .b) (good-here p) (s .args .q) (duty c) (is-found c) n a)
+    past-here p n (past-open (s .args .b) (good-here p) (s .args .q) (duty c) (is-found c) n a)
 
 -- ---- the needs
+
+is-good-requires : tie.Need-is-good-requires
+is-good-requires c κs = search needs
 
 board-refusal-requires : tie.Need-board-refusal-requires
 board-refusal-requires c κs = search needs
@@ -68,12 +83,12 @@ refused-requires c κs = search needs
 
 returns : tie.Need-returns
 returns c =
-    let tested = c .before .before in
-    let s = tested .before in
+    let number = c .before .before .board-refusal in
+    let tested = c .before .before .before .is-good in
+    let s = c .before .before .before .before .args in
     let refuses = c .before .if1 .taken in
-    refused-does (s .args .b) (s .args .q) (c .refused .result) (tested .board-refusal .result)
-    (c .refused .ensures)
-    (board-answers (s .args .b) (s .args .q) (tested .board-refusal .result) (tested .board-refusal .ensures)
+    refused-does (s .b) (s .q) (c .refused .result) (number .result) (c .refused .ensures)
+    (board-answers (s .b) (s .q) (tested .result) (tested .ensures) (number .result) (number .ensures)
     refuses) refuses
 
 cast-n : tie.Need-cast-n
@@ -95,59 +110,75 @@ returns-2 : tie.Need-returns-2
 returns-2 c =
     let sought = c .before .before .before in
     let p = sought .before .before .before .before in
-    let s = start p in
-    let tested = p .before .board-refusal in
+    let s = start p .args in
     let missing = sym (sought .with-serial .ensures) ∙ c .before .enum-told .given .1 in
-    refused-does (s .args .b) (s .args .q) (c .refused2 .result) _ (c .refused2 .ensures)
-    (past-board (s .args .b) (s .args .q) (tested .result) (tested .ensures) (p .if1 .left) _
-    (inl (found-missing (view (s .args .b)) (s .args .q .serial .0) missing, refl)))
+    refused-does (s .b) (s .q) (c .refused2 .result) _ (c .refused2 .ensures)
+    (past-here p _ (inl (found-missing (view (s .b)) (s .q .serial .0) missing, refl)))
     (λ e. omega arith)
 
-duty-refusal-requires : tie.Need-duty-refusal-requires
-duty-refusal-requires c κs = good-here (passed c)
+time-refusal-requires : tie.Need-time-refusal-requires
+time-refusal-requires c κs = search needs
 
 refused-requires-3 : tie.Need-refused-requires-3
 refused-requires-3 c κs = search needs
 
 returns-3 : tie.Need-returns-3
 returns-3 c =
-    let tested = c .before .before in
-    let found = tested .before in
-    let s = start (passed found) in
-    refused-does (s .args .b) (s .args .q) (c .refused3 .result) (tested .duty-refusal .result)
-    (c .refused3 .ensures)
-    (answers-here found (tested .duty-refusal .result) (tested .duty-refusal .ensures))
-    (c .before .if2 .taken)
+    let reason = c .before .before .time-refusal in
+    let found = c .before .before .before in
+    let s = start (passed found) .args in
+    let refuses = c .before .if2 .taken in
+    refused-does (s .b) (s .q) (c .refused3 .result) (reason .result) (c .refused3 .ensures)
+    (answers-here found (reason .result)
+    (time-answers (s .b) (good-here (passed found)) (s .q) (duty found) (is-found found) (reason .result)
+    (reason .ensures) refuses)) refuses
 
-withdrawn-requires : tie.Need-withdrawn-requires
-withdrawn-requires c κs = search needs
+permitted-requires : tie.Need-permitted-requires
+permitted-requires c κs = search needs
 
-acted-requires : tie.Need-acted-requires
-acted-requires c κs = search needs
+refused-requires-4 : tie.Need-refused-requires-4
+refused-requires-4 c κs = search needs
+
+returns-4 : tie.Need-returns-4
+returns-4 c =
+    let may = c .before .before .permitted in
+    let passes = c .before .before .before .if2 .left in
+    let reason = c .before .before .before .before .time-refusal in
+    let found = c .before .before .before .before .before in
+    let s = start (passed found) .args in
+    refused-does (s .b) (s .q) (c .refused4 .result) _ (c .refused4 .ensures)
+    (answers-here found _
+    (may-not (s .b) (good-here (passed found)) (s .q) (duty found) (is-found found) (reason .result)
+    (reason .ensures) passes (may .result) (may .ensures) (c .before .if3 .taken)))
+    (λ e. omega arith)
+
+did-requires : tie.Need-did-requires
+did-requires c κs = search needs
 
 done-requires : tie.Need-done-requires
 done-requires c κs = search needs
 
-returns-4 : tie.Need-returns-4
-returns-4 c =
-    let acted = c .before in
-    let left = acted .before in
-    let tested = left .before .before in
-    let found = tested .before in
+returns-5 : tie.Need-returns-5
+returns-5 c =
+    let allowed = c .before .before in
+    let may = allowed .before .permitted in
+    let passes = allowed .before .before .if2 .left in
+    let reason = allowed .before .before .before .time-refusal in
+    let found = allowed .before .before .before .before in
     let s = start (passed found) in
-    let b = s .args .b in
-    let q = s .args .q in
-    let passes = left .before .if2 .left in
-    let checks = dutyChecks b (duty found) (q .clock) in
-    let answers = subst (Answers checks) passes (tested .duty-refusal .ensures) in
-    done-does b (good-here (passed found)) q (duty found) (is-found found) (sized b _ (s .good .0))
-    (c .done .result) (left .withdrawn .result) (acted .acted .result) (c .done .ensures)
-    (left .withdrawn .ensures) (acted .acted .ensures) (answers-here found _ answers)
+    let whole = good-here (passed found) in
+    done-does (s .args .b) whole (s .args .q) (duty found) (is-found found)
+    (sized (s .args .b) _ (s .good .0)) (c .done .result) (c .before .did .result) (c .done .ensures)
+    (c .before .did .ensures)
+    (answers-here found _
+    (may-do (s .args .b) whole (s .args .q) (duty found) (is-found found) (reason .result)
+    (reason .ensures) passes (may .result) (may .ensures) (allowed .if3 .left)))
 
 pub do-duty-spec : {M : Type 1} → statement M
 do-duty-spec =
     tie.close
     (tie.spec
+    is-good-requires
     board-refusal-requires
     refused-requires
     returns
@@ -157,10 +188,12 @@ do-duty-spec =
     enum-told
     refused-requires-2
     returns-2
-    duty-refusal-requires
+    time-refusal-requires
     refused-requires-3
     returns-3
-    withdrawn-requires
-    acted-requires
+    permitted-requires
+    refused-requires-4
+    returns-4
+    did-requires
     done-requires
-    returns-4)
+    returns-5)

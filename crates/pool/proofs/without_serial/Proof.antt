@@ -1,17 +1,17 @@
 -- `without_serial` is right: of the first i duties those without the serial stand closed up at the start of
--- the room, with filler in the rest, and at the end the first i are the first n.
-use mathlib.Core.Path.{_≡_, sym, ap, _∙_}
+-- the room, and at the end the first i are the first n. Then filler stands behind them up to place k.
+use mathlib.Core.Path.{_≡_, refl, sym, ap, _∙_}
 use mathlib.Core.Logic.{⊎-elim}
 use mathlib.Core.Bool.{Bool, not}
 use Prim.Native.Nat.{ℕ, _-_, _≤_, _<_, min}
 use native.Mathlib.Omega.{arith}
-use lib.ListN.{length, replicate}
+use lib.ListN.{length, take}
 use borrow.Author.Needs.{needs}
 use Rattle.board.specs.declared.Duty.{Duty}
 use Rattle.board.specs.After.{named}
-use Rattle.board.specs.Filler.{noDuty}
 use Rattle.board.specs.Limits.{maxDuties}
 use Rattle.pool.proofs.ClosedUp.{ClosedUp, starts, written, passed-over}
+use Rattle.pool.proofs.ClosedUp.{FilledUp, fill-starts, filled, fill-ends}
 use Rattle.pool.proofs.Turns.{in-turn, at-end, same-first}
 use Rattle.pool.proofs.without_serial.Statement.{statement}
 use Rattle.pool.proofs.without_serial.Tie as tie
@@ -22,75 +22,120 @@ stays serial d = not (named serial d)
 
 abbrev Inv-loop : tie.InvT-loop
 Inv-loop n serial duties out₀ count₀ i₀ out count i =
-    (i ≤ n) × ClosedUp (stays (serial .0)) noDuty maxDuties duties out count i
+    (i ≤ n) × ((i ≤ maxDuties) × ClosedUp (stays (serial .0)) maxDuties duties out count i)
 
 abbrev μ-loop : tie.MeasureT-loop
 μ-loop n serial duties out₀ count₀ i₀ out count i = n - i
 
+abbrev Inv-loop2 : tie.InvT-loop2
+Inv-loop2 n out₀ count i filler k₀ out k = FilledUp filler maxDuties count out₀ out k
+
+abbrev μ-loop2 : tie.MeasureT-loop2
+μ-loop2 n out₀ count i filler k₀ out k = maxDuties - k
+
 -- in a turn, the duty at place i is one of the first n
 within :
-    (c : tie.In-loop Inv-loop μ-loop) →
-    let s = c .before .before .before .args in
+    (c : tie.In-loop Inv-loop μ-loop Inv-loop2 μ-loop2) →
+    let s = c .before .before .args in
     (c .before .loop .i < min (s .n) (length (s .t1))) × (length (s .t1) ≡ maxDuties)
 within c =
-    let s = c .before .before .before .args in
+    let s = c .before .before .args in
     let long : length (s .t1) ≡ maxDuties = search needs in
     (in-turn (s .t1) (s .n) (c .before .loop .i) long (c .loop-test .taken), long)
 
-filler-requires : tie.Need-filler-requires Inv-loop μ-loop
-filler-requires c κs = search needs
+-- at the end of the first loop the first i duties are the first n
+same :
+    (c : tie.After-loop Inv-loop μ-loop Inv-loop2 μ-loop2) →
+    let s = c .before .before .args in take (c .before .loop .i) (s .t1) ≡ take (s .n) (s .t1)
+same c =
+    let s = c .before .before .args in
+    let l = c .before .loop in
+    let long : length (s .t1) ≡ maxDuties = search needs in
+    same-first (s .t1) (l .i) (s .n) (l .inv .0) (at-end (s .t1) (s .n) (l .i) long (c .loop-test .left))
 
-loop-holds : tie.Need-loop-holds Inv-loop μ-loop
-loop-holds c = (search needs, starts (ap (replicate maxDuties) (c .filler .ensures)))
+-- ---- the needs
 
-mul-d : tie.Need-mul-d Inv-loop μ-loop
+loop-holds : tie.Need-loop-holds Inv-loop μ-loop Inv-loop2 μ-loop2
+loop-holds c = (search needs, (search needs, starts (search needs)))
+
+mul-d : tie.Need-mul-d Inv-loop μ-loop Inv-loop2 μ-loop2
 mul-d c = let h = within c in search needs
 
-array-copy-out-d : tie.Need-array-copy-out-d Inv-loop μ-loop
+array-copy-out-d : tie.Need-array-copy-out-d Inv-loop μ-loop Inv-loop2 μ-loop2
 array-copy-out-d c = let h = within c in search needs
 
-has-serial-requires : tie.Need-has-serial-requires Inv-loop μ-loop
+has-serial-requires : tie.Need-has-serial-requires Inv-loop μ-loop Inv-loop2 μ-loop2
 has-serial-requires c κs = search needs
 
-cast-at : tie.Need-cast-at Inv-loop μ-loop
+cast-at : tie.Need-cast-at Inv-loop μ-loop Inv-loop2 μ-loop2
 cast-at c = search needs
 
-mul-out : tie.Need-mul-out Inv-loop μ-loop
+mul-out : tie.Need-mul-out Inv-loop μ-loop Inv-loop2 μ-loop2
 mul-out c = let h = within (c .before .before .before) in search needs
 
-array-set-from-out : tie.Need-array-set-from-out Inv-loop μ-loop
+array-set-from-out : tie.Need-array-set-from-out Inv-loop μ-loop Inv-loop2 μ-loop2
 array-set-from-out c = let h = within (c .before .before .before) in search needs
 
-add-count : tie.Need-add-count Inv-loop μ-loop
+add-count : tie.Need-add-count Inv-loop μ-loop Inv-loop2 μ-loop2
 add-count c = let h = within (c .before .before .before) in search needs
 
-add-i : tie.Need-add-i Inv-loop μ-loop
+add-i : tie.Need-add-i Inv-loop μ-loop Inv-loop2 μ-loop2
 add-i c = let h = within (c .before .before .before) in search needs
 
-loop-less : tie.Need-loop-less Inv-loop μ-loop
+loop-less : tie.Need-loop-less Inv-loop μ-loop Inv-loop2 μ-loop2
 loop-less c = let h = within (c .before .before .before) in search needs
 
-loop-again : tie.Need-loop-again Inv-loop μ-loop
+loop-again : tie.Need-loop-again Inv-loop μ-loop Inv-loop2 μ-loop2
 loop-again c =
     let turn = c .before .before .before in
-    let known = turn .before .loop .inv .1 in
+    let known = turn .before .loop .inv .1 .1 in
     let h = within turn in
     let other = sym (ap not (c .before .has-serial .ensures)) in (
       omega arith,
-      ⊎-elim
-          (λ w. rw (w .1, w .2) (written known _ (omega arith) (omega arith) (other ∙ w .0 .taken)))
-          (λ w. rw (w .1, w .2) (passed-over known _ (omega arith) (other ∙ w .0 .left)))
-          (c .if1 .came),
+      (
+        omega arith,
+        ⊎-elim
+            (λ w. rw (w .1, w .2) (written known _ (omega arith) (omega arith) (other ∙ w .0 .taken)))
+            (λ w. rw (w .1, w .2) (passed-over known _ (omega arith) (other ∙ w .0 .left)))
+            (c .if1 .came),
+      ),
     )
 
-returns : tie.Need-returns Inv-loop μ-loop
+filler-requires : tie.Need-filler-requires Inv-loop μ-loop Inv-loop2 μ-loop2
+filler-requires c κs = search needs
+
+cast-k : tie.Need-cast-k Inv-loop μ-loop Inv-loop2 μ-loop2
+cast-k c = search needs
+
+loop2-holds : tie.Need-loop2-holds Inv-loop μ-loop Inv-loop2 μ-loop2
+loop2-holds c =
+    let closed = c .before .before .loop .inv in
+    fill-starts (closed .1 .1 .long) (omega (arith, closed .1 .0, closed .1 .1 .few))
+
+mul-out-2 : tie.Need-mul-out-2 Inv-loop μ-loop Inv-loop2 μ-loop2
+mul-out-2 c = search needs
+
+array-set-from-out-2 : tie.Need-array-set-from-out-2 Inv-loop μ-loop Inv-loop2 μ-loop2
+array-set-from-out-2 c = search needs
+
+add-k : tie.Need-add-k Inv-loop μ-loop Inv-loop2 μ-loop2
+add-k c = search needs
+
+loop2-less : tie.Need-loop2-less Inv-loop μ-loop Inv-loop2 μ-loop2
+loop2-less c = search needs
+
+loop2-again : tie.Need-loop2-again Inv-loop μ-loop Inv-loop2 μ-loop2
+loop2-again c = let more = c .loop2-test .taken in filled (c .before .loop2 .inv) (omega arith)
+
+returns : tie.Need-returns Inv-loop μ-loop Inv-loop2 μ-loop2
 returns c =
-    let s = c .before .before .before .args in
-    let l = c .before .loop in
-    let long : length (s .t1) ≡ maxDuties = search needs in
-    let end = at-end (s .t1) (s .n) (l .i) long (c .loop-test .left) in
-    let same = same-first (s .t1) (l .i) (s .n) (l .inv .0) end in
-    (rw same at (l .inv .1 .is), rw same at (l .inv .1 .counted))
+    let made = c .before .before .filler .ensures in
+    let over = c .before .before .before in
+    let closed = over .before .loop .inv .1 .1 in
+    let kept = rw (same over) at (closed .is) in
+    let counted = rw (same over) at (closed .counted) in
+    let end = c .loop2-test .left in
+    (fill-ends (c .before .loop2 .inv) (omega arith) ∙ rw (kept, made, ← counted) refl, counted)
 
 pub without-serial-spec : {M : Type 1} → statement M
 without-serial-spec =
@@ -98,7 +143,8 @@ without-serial-spec =
     (tie.spec
     Inv-loop
     μ-loop
-    filler-requires
+    Inv-loop2
+    μ-loop2
     loop-holds
     mul-d
     array-copy-out-d
@@ -110,4 +156,12 @@ without-serial-spec =
     add-i
     loop-less
     loop-again
+    filler-requires
+    cast-k
+    loop2-holds
+    mul-out-2
+    array-set-from-out-2
+    add-k
+    loop2-less
+    loop2-again
     returns)

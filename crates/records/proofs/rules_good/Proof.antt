@@ -4,33 +4,29 @@ use Prim.Native.Nat.{_-_}
 use borrow.Author.Needs.{needs}
 use Rattle.board.specs.Limits.{maxRules}
 use Rattle.board.specs.Filler.{noRule}
-use Rattle.board.proofs.Sized.{sized}
 use Rattle.records.specs.Places.{ruleTests}
 use Rattle.records.proofs.Parts.{RestTells, at-start, passes, fails, at-end}
 use Rattle.records.proofs.rules_good.Statement.{statement}
 use Rattle.records.proofs.rules_good.Tie as tie
 
 abbrev Inv-loop : tie.InvT-loop
-Inv-loop b count roles previous₀ i₀ previous i =
-    RestTells (ruleTests (b .counts .roles)) (b .counts .rules) maxRules (b .rules) i previous
+Inv-loop count roles rules previous₀ i₀ previous i =
+    RestTells (ruleTests roles) count maxRules rules i previous
 
 abbrev μ-loop : tie.MeasureT-loop
-μ-loop b count roles previous₀ i₀ previous i = maxRules - i
+μ-loop count roles rules previous₀ i₀ previous i = maxRules - i
 
-cast-count : tie.Need-cast-count Inv-loop μ-loop
-cast-count c = search needs
-
-element-copy-out-previous : tie.Need-element-copy-out-previous Inv-loop μ-loop
-element-copy-out-previous c = search needs
+array-copy-out-previous : tie.Need-array-copy-out-previous Inv-loop μ-loop
+array-copy-out-previous c = search needs
 
 loop-holds : tie.Need-loop-holds Inv-loop μ-loop
-loop-holds c = at-start (sized (c .before .args .t1) _ (c .before .good .0) .rules)
+loop-holds c = at-start (search needs)
 
 mul-r : tie.Need-mul-r Inv-loop μ-loop
 mul-r c = search needs
 
-element-copy-out-r : tie.Need-element-copy-out-r Inv-loop μ-loop
-element-copy-out-r c = search needs
+array-copy-out-r : tie.Need-array-copy-out-r Inv-loop μ-loop
+array-copy-out-r c = search needs
 
 rule-place-requires : tie.Need-rule-place-requires Inv-loop μ-loop
 rule-place-requires c κs = search needs
@@ -62,11 +58,10 @@ rules-good-spec =
     (tie.spec
     Inv-loop
     μ-loop
-    cast-count
-    element-copy-out-previous
+    array-copy-out-previous
     loop-holds
     mul-r
-    element-copy-out-r
+    array-copy-out-r
     rule-place-requires
     returns
     add-i

@@ -1,0 +1,3 @@
+pub mod PutIn
+pub mod Gathered
+pub mod Allowed

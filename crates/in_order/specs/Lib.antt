@@ -1,0 +1,2 @@
+pub mod InOrder
+pub mod Keys

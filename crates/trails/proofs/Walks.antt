@@ -1,0 +1,173 @@
+-- Walks through duties, part after part: what is left of a part takes a walk to the same end as the whole
+-- part does from its start, and the four parts of a trail make up the trail.
+use mathlib.Core.Path.{_≡_, refl, sym, ap, _∙_}
+use mathlib.Core.Logic.{⊎-elim}
+use mathlib.Core.Bool.{Bool, true, false, _||_}
+use mathlib.Core.List.{List, [], _∷_, _++_}
+use Prim.Native.Nat.{ℕ, suc, _+_, _≤_, _<_}
+use native.Mathlib.Numerals.{add-one}
+use native.Mathlib.Omega.{arith}
+use lib.Dec.{leb}
+use lib.ListN.{length, take, drop, getD, length-set, length-take, drop-of-length-le}
+use lib.Seq.{drop-cons, getD-take}
+use borrow.Author.Tests.{leb-true, leb-false}
+use Rattle.orders.specs.Lists.{Mem, keep}
+use Rattle.orders.proofs.Loops.{take-mem}
+use Rattle.orders.proofs.Tests.{by-test, or-true, or-false}
+use Rattle.asks.specs.declared.Ask.{Ask}
+use Rattle.asks.specs.Asks.{noAsk}
+use Rattle.board.specs.declared.Duty.{Duty}
+use Rattle.board.specs.Filler.{noDuty}
+use Rattle.trails.specs.Walking.{Walk, inTrail, trailOf, doOne, doAll, setOut}
+use Rattle.trails.specs.Walking.{AsksAre, PartDone, PlaceOf, Walked}
+
+-- ---- one duty, and one part after another
+
+one-keeps : (ask : Ask) (w : Walk × List ℕ) (y : Duty) → length (doOne ask w y .1) ≡ length (w .1)
+unfolding doOne
+one-keeps ask w y =
+    by-test
+    (w .0 .stuck || leb (length (w .1)) (w .0 .length))
+    (λ e. rw e)
+    (λ e. rw e (length-set (w .1) (w .0 .length) (y .serial .0)))
+
+do-append :
+    (asked : Duty → Ask) (w : Walk × List ℕ) (l m : List Duty)
+    → doAll asked w (l ++ m) ≡ doAll asked (doAll asked w l) m
+unfolding doAll
+do-append asked w [] m = refl
+do-append asked w (y ∷ l) m = do-append asked (doOne (asked y) w y) l m
+
+-- ---- the loop of `do_part`: those duties of the pool that pass a test
+
+-- the duties below place k are behind the walk
+pub record Passed
+    (pool : List Duty) (asks : List Ask) (passes : Duty → Bool) (start now : Walk × List ℕ) (k : ℕ) : Type 0
+  where
+    pub long : length (now .1) ≡ length (start .1)
+    pub same :
+        (asked : Duty → Ask) → AsksAre asked pool asks
+        → doAll asked now (keep passes (drop k pool)) ≡ doAll asked start (keep passes pool)
+
+module _ {pool : List Duty} {asks : List Ask} {passes : Duty → Bool} {start : Walk × List ℕ} where
+  pub begun : Passed pool asks passes start start 0
+  begun = record { long = refl; same = λ asked are. refl }
+
+  module _
+      {now : Walk × List ℕ} {k : ℕ} (passed : Passed pool asks passes start now k) (h : k < length pool)
+      (y : Duty) (is : getD pool k noDuty ≡ y)
+    where
+      left : drop k pool ≡ y ∷ drop (k + 1) pool
+      left = rw (add-one k) (drop-cons pool k noDuty h ∙ ap (λ (z : Duty). z ∷ drop (suc k) pool) is)
+
+      pub turn-done :
+          passes y ≡ true → (then : Walk × List ℕ) → then ≡ doOne (getD asks k noAsk) now y
+          → Passed pool asks passes start then (k + 1)
+      unfolding doAll
+      turn-done t then e =
+          record {
+            long = ap (λ (w : Walk × List ℕ). length (w .1)) e ∙ one-keeps (getD asks k noAsk) now y
+                ∙ passed .long;
+            same = λ asked are. rw (e, are k h, is) (rw (left, t) at (passed .same asked are));
+          }
+
+      pub turn-skips : passes y ≡ false → Passed pool asks passes start now (k + 1)
+      turn-skips f =
+          record {
+            long = passed .long;
+            same = λ asked are. rw (left, f) at (passed .same asked are);
+          }
+
+  pub part-done :
+      {now : Walk × List ℕ} {k : ℕ} → length pool ≤ k → Passed pool asks passes start now k
+      → PartDone pool asks passes start now
+  unfolding doAll
+  part-done {k = k} h passed asked are =
+      rw (drop-of-length-le pool {i = k} h) at (passed .same asked are)
+
+-- ---- the trail of the duties at two places
+
+module _ (asked : Duty → Ask) (pool : List Duty) (x d : Duty) (start first second third last : Walk × List ℕ)
+  where
+    abbrev part : Bool → List Duty
+    part late = keep (inTrail late x d) pool
+
+    four-parts :
+        first ≡ doAll asked start (part false) → second ≡ doOne (asked x) first x
+        → third ≡ doAll asked second (part true) → last ≡ doOne (asked d) third d
+        → last ≡ doAll asked start (trailOf pool x d)
+    unfolding doAll
+    four-parts p q r s =
+        rw
+        (s, r, q, p)
+        (sym (do-append asked start (part false) (x ∷ (part true ++ (d ∷ [])))
+        ∙ do-append asked (doOne (asked x) (doAll asked start (part false)) x) (part true) (d ∷ [])))
+
+module _ (duties : List Duty) (n : ℕ) (asks : List Ask) (asked : Duty → Ask) where
+  abbrev pool : List Duty
+  pool = take n duties
+
+  -- the duty with a serial is the one at the place found, and so is what is asked for it
+  record Known (y : Duty) (place : ℕ) : Type 0 where
+    duty : getD duties place noDuty ≡ y
+    ask : getD asks place noAsk ≡ asked y
+
+  known :
+      AsksAre asked pool asks
+      → ((y z : Duty) → Mem y pool → Mem z pool → y .serial .0 ≡ z .serial .0 → y ≡ z)
+      → (serial place : ℕ) → PlaceOf duties n serial place → place < n
+      → (y : Duty) → Mem y pool → y .serial .0 ≡ serial → Known y place
+  known are unique serial place at h y m e =
+      let k = at .room h in
+      let is = unique _ y (take-mem duties n place noDuty h k) m (at .has h ∙ sym e) in
+      record {
+        duty = is;
+        ask = are place (rw length-take (omega arith)) ∙ ap asked (getD-take n duties place noDuty h ∙ is);
+      }
+
+-- where one of the two is missing, nothing is said
+pub missing :
+    {duties : List Duty} {n spoiler stuck i j : ℕ} → PlaceOf duties n spoiler i → PlaceOf duties n stuck j
+    → leb n i || leb n j ≡ true → (asks : List Ask) (sets before after : List ℕ) (length : ℕ)
+    → Walked (take n duties) asks sets spoiler stuck before after length
+missing {n = n} {i = i} {j = j} x-at d-at t asks sets before after length =
+    λ asked x d are unique x-in x-is d-in d-is.
+    absurd
+    (⊎-elim
+    (λ e. x-at .none (leb-true n i e) x x-in x-is)
+    (λ e. d-at .none (leb-true n j e) d d-in d-is)
+    (or-true (leb n i) (leb n j) t))
+
+-- the four parts in turn
+pub walked :
+    {duties : List Duty} {n spoiler stuck i j : ℕ} → PlaceOf duties n spoiler i → PlaceOf duties n stuck j
+    → leb n i || leb n j ≡ false → (asks : List Ask) (sets before : List ℕ) →
+    let x = getD duties i noDuty in
+    let d = getD duties j noDuty in
+    (first second third last : Walk × List ℕ)
+    → PartDone (take n duties) asks (inTrail false x d) (setOut sets before) first
+    → second ≡ doOne (getD asks i noAsk) first x
+    → PartDone (take n duties) asks (inTrail true x d) second third
+    → last ≡ doOne (getD asks j noAsk) third d
+    → Walked (take n duties) asks sets spoiler stuck before (last .1) (last .0 .length)
+walked {duties} {n} {i = i} {j = j} x-at d-at f asks sets before first second third last p q r s =
+    λ asked x d are unique x-in x-is d-in d-is.
+    let bounds = or-false (leb n i) (leb n j) f in
+    let at-x = known duties n asks asked are unique _ i x-at (leb-false n i (bounds .0)) x x-in x-is in
+    let at-d = known duties n asks asked are unique _ j d-at (leb-false n j (bounds .1)) d d-in d-is in
+    let whole =
+    four-parts
+    asked
+    (take n duties)
+    x
+    d
+    (setOut sets before)
+    first
+    second
+    third
+    last
+    (rw (at-x .duty, at-d .duty) at (p asked are))
+    (rw (at-x .duty, at-x .ask) at q)
+    (rw (at-x .duty, at-d .duty) at (r asked are))
+    (rw (at-d .duty, at-d .ask) at s) in
+    (ap (λ (w : Walk × List ℕ). w .1) whole, ap (λ (w : Walk × List ℕ). w .0 .length) whole)

@@ -1,0 +1,110 @@
+-- Doing duties in turn until one is not permitted, and writing their serials. That what is written is the
+-- trail cut after that duty is proved in proofs/Cutting.antt.
+use mathlib.Core.Path.{_≡_}
+use mathlib.Core.Bool.{Bool, true, false, not, _&&_, _||_, cond}
+use mathlib.Core.List.{List, [], _∷_, _++_, map}
+use Prim.Native.Nat.{ℕ, _+_, _≤_, _<_}
+use lib.Dec.{eqb, leb}
+use lib.ListN.{length, getD, set, take}
+use Rattle.orders.specs.Lists.{Mem, keep}
+use Rattle.roles.specs.Roles.{inSet}
+use Rattle.acts.specs.Meets.{meetsSets}
+use Rattle.asks.specs.declared.Ask.{Ask}
+use Rattle.asks.specs.Asks.{noAsk}
+use Rattle.board.specs.declared.Duty.{Duty}
+use Rattle.board.specs.Filler.{noDuty}
+use Rattle.board.specs.Good.{whatFits}
+use Rattle.board.specs.Limits.{maxUsers, maxRoles}
+use Rattle.board.specs.Permitted.{changed}
+use Rattle.board.specs.Windows.{whollyBefore}
+use Rattle.trails.specs.declared.Progress.{Progress}
+
+-- ---- the trail of x and d
+
+-- y stands early in the trail of x and d (orders: early), or between the two (orders: between)
+abbrev pub inTrail : Bool → Duty → Duty → Duty → Bool
+inTrail late x d y =
+    cond late (whollyBefore x y && whollyBefore y d)
+    ((whollyBefore y d || whollyBefore y x) && not (whollyBefore x y || eqb (y .serial .0) (x .serial .0)))
+
+-- what must come early, x, what lies between x and d, d (orders: trail)
+abbrev pub trailOf : List Duty → Duty → Duty → List Duty
+trailOf pool x d =
+    keep (inTrail false x d) pool ++ (x ∷ (keep (inTrail true x d) pool ++ (d ∷ [])))
+
+-- ---- a walk, with the list that it writes
+
+-- who holds what by now, how many serials are written, and whether a duty was not permitted
+pub record Walk : Type 0 where
+  pub holdings : List ℕ
+  pub length : ℕ
+  pub stuck : Bool
+
+abbrev pub walking : List ℕ → Progress → List ℕ → Walk × List ℕ
+walking sets p list = (record { holdings = sets; length = p .length; stuck = p .stuck }, list)
+
+-- the sets of roles meet what is asked of the doer
+abbrev pub meetsAsk : List ℕ → ℕ → Ask → Bool
+meetsAsk sets doer ask =
+    ask .ruled
+    && (inSet (getD sets doer 0) (ask .actor)
+    && meetsSets (getD sets (ask .target) 0) (ask .wanted) (ask .barred))
+
+-- A walk that is not stuck, with room in its list, does one duty more: it writes the serial and makes the
+-- change; where the duty is not permitted, it makes no change and is stuck.
+unfoldable pub doOne : Ask → Walk × List ℕ → Duty → Walk × List ℕ
+doOne ask w y =
+    let sets = w .0 .holdings in
+    let at = w .0 .length in
+    let permitted = meetsAsk sets (y .doer) ask in
+    cond (w .0 .stuck || leb (length (w .1)) at) w (
+      record {
+        holdings = cond permitted (changed sets (y .what)) sets;
+        length = at + 1;
+        stuck = not permitted;
+      },
+      set (w .1) at (y .serial .0),
+    )
+
+-- these in turn; `asked` says what is asked for each
+unfoldable pub doAll : (Duty → Ask) → Walk × List ℕ → List Duty → Walk × List ℕ
+doAll asked w [] = w
+doAll asked w (y ∷ l) = doAll asked (doOne (asked y) w y) l
+
+-- the array says what is asked for each duty of the pool, place by place
+abbrev pub AsksAre : (Duty → Ask) → List Duty → List Ask → Type 0
+AsksAre asked pool asks = (i : ℕ) → i < length pool → getD asks i noAsk ≡ asked (getD pool i noDuty)
+
+-- those duties of the pool that pass the test were done
+abbrev pub PartDone : List Duty → List Ask → (Duty → Bool) → Walk × List ℕ → Walk × List ℕ → Type 0
+PartDone pool asks passes before after =
+    (asked : Duty → Ask) → AsksAre asked pool asks → after ≡ doAll asked before (keep passes pool)
+
+-- a walk from these sets of roles
+abbrev pub setOut : List ℕ → List ℕ → Walk × List ℕ
+setOut sets list = (record { holdings = sets; length = 0; stuck = false }, list)
+
+-- ---- what is written
+
+-- The place is that of a duty with this serial, one of the first n; or none of them has it.
+pub record PlaceOf (duties : List Duty) (n serial place : ℕ) : Type 0 where
+  pub room : place < n → place < length duties
+  pub has : place < n → getD duties place noDuty .serial .0 ≡ serial
+  pub none : n ≤ place → (y : Duty) → Mem y (take n duties) → y .serial .0 ≡ serial → ⊥
+
+-- what each of these duties is to do names a user and a role that a board can have
+abbrev pub InRange : List Duty → Type 0
+InRange l = (y : Duty) → Mem y l → whatFits maxUsers maxRoles (y .what) ≡ true
+
+abbrev pub serials : List Duty → List ℕ
+serials l = map (λ (d : Duty). d .serial .0) l
+
+-- The trail of x and d was walked, the duties of the pool that have these serials: the list is what the walk
+-- left in it, and n the number of serials written.
+abbrev pub Walked : List Duty → List Ask → List ℕ → ℕ → ℕ → List ℕ → List ℕ → ℕ → Type 0
+Walked pool asks sets spoiler stuck before after n =
+    (asked : Duty → Ask) (x d : Duty)
+    → AsksAre asked pool asks
+    → ((y z : Duty) → Mem y pool → Mem z pool → y .serial .0 ≡ z .serial .0 → y ≡ z)
+    → Mem x pool → x .serial .0 ≡ spoiler → Mem d pool → d .serial .0 ≡ stuck
+    → let w = doAll asked (setOut sets before) (trailOf pool x d) in (after ≡ w .1) × (n ≡ w .0 .length)

@@ -1,0 +1,17 @@
+pub mod MostAndLeast
+pub mod Alone
+pub mod Asking
+pub mod Spoiled
+pub mod NotRed
+pub mod StuckLaws
+pub mod Bits
+pub mod Mending
+pub mod EarlierMend
+pub mod Weighing
+pub mod Gathered
+pub mod AllMends
+pub mod AllUsers
+pub mod Idle
+pub mod Reached
+pub mod Weighed
+pub mod Searching

@@ -1,0 +1,4 @@
+pub mod Tests
+pub mod Setting
+pub mod Troubles
+pub mod Reaching

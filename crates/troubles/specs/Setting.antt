@@ -1,0 +1,76 @@
+-- The duties that set a holding, in numbers: whom they set, the role granted or revoked as a set, the window.
+-- For each of them the earliest end of a duty that can mend what it spoils, so that whether one does is told
+-- by one comparison.
+use mathlib.Core.Bool.{Bool, true, false, not, _&&_, _||_, cond}
+use mathlib.Core.List.{List, [], _∷_}
+use Prim.Native.Nat.{ℕ}
+use lib.Bits.{bitAnd, bitOr}
+use lib.Dec.{eqb, ltb}
+use Rattle.roles.specs.Roles.{withRole}
+use Rattle.asks.specs.declared.Ask.{Ask}
+use Rattle.board.specs.declared.Duty.{Duty}
+use Rattle.board.specs.declared.What.{What}
+use Rattle.board.specs.declared.What.the-variants.{Grant, Revoke, Use}
+use Rattle.board.specs.Windows.{whollyBefore}
+use Rattle.troubles.specs.declared.setting.Setter.{Setter}
+use Rattle.troubles.specs.Tests.{undoes}
+
+-- the last minute
+abbrev pub lastMinute : ℕ
+lastMinute = 4294967295
+
+-- it is a grant or a revoke
+abbrev pub setsOne : Duty → Bool
+setsOne d = isSet (d .what)
+  where
+    isSet : What → Bool
+    isSet (Grant target role) = true
+    isSet (Revoke target role) = true
+    isSet (Use action object) = false
+
+-- what this sets, in numbers
+abbrev pub userOf : What → ℕ
+userOf (Grant target role) = target
+userOf (Revoke target role) = target
+userOf (Use action object) = 0
+
+abbrev pub grantsOf : What → ℕ
+grantsOf (Grant target role) = withRole 0 role
+grantsOf (Revoke target role) = 0
+grantsOf (Use action object) = 0
+
+abbrev pub revokesOf : What → ℕ
+revokesOf (Grant target role) = 0
+revokesOf (Revoke target role) = withRole 0 role
+revokesOf (Use action object) = 0
+
+abbrev pub setterOf : Duty → Setter
+setterOf d =
+    record {
+      serial = d .serial;
+      user = userOf (d .what);
+      grants = grantsOf (d .what);
+      revokes = revokesOf (d .what);
+      start = d .start;
+      end = d .end;
+    }
+
+-- the lesser of `best` and the earliest end of a duty that undoes what x sets and that x is wholly before
+unfoldable pub firstMend : Duty → ℕ → List Duty → ℕ
+firstMend x best [] = best
+firstMend x best (g ∷ l) =
+    firstMend x
+    (cond ((whollyBefore x g && undoes (g .what) (x .what)) && ltb (g .end) best) (g .end) best) l
+
+-- ---- what is asked, against what is set
+
+-- the set has a role
+abbrev pub hasRole : ℕ → Bool
+hasRole set = not (eqb set 0)
+
+-- the opposite of what is set is asked; `actor` is the role that the doer is to hold, as a set
+abbrev pub isAgainst : ℕ → ℕ → Ask → ℕ → ℕ → ℕ → Bool
+isAgainst doer actor ask user grants revokes =
+    (eqb user doer && hasRole (bitAnd revokes actor))
+    || (eqb user (ask .target)
+    && hasRole (bitOr (bitAnd revokes (ask .wanted)) (bitAnd grants (ask .barred))))
