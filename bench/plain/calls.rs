@@ -11,6 +11,17 @@ fn doing_fits(counts: &Counts, doer: u16, action: u16, first: u16, second: u16) 
     doer < counts.users && what_fits(What::of(action, first, second), counts) && second_fits(action, second)
 }
 
+/// What admit, act and withdraw try first: 19, 9, 10.
+fn refused_first(b: &Board, list: &[u32], clock: u32) -> Option<u8> {
+    if !is_good(b) {
+        return Some(number::BROKEN);
+    }
+    if list.len() < DUTIES {
+        return Some(number::LIST);
+    }
+    (clock < b.clock).then_some(number::CLOCK)
+}
+
 /// The place of the open duty with the serial.
 fn place_of(b: &Board, serial: u32) -> Option<usize> {
     b.duties().binary_search_by_key(&serial, |d| d.serial).ok()
@@ -66,14 +77,8 @@ pub fn check(b: &Board, list: &mut [u32]) -> Answer {
 
 /// Admit: 19, 9, 10, 11, 7, 16, 17, 8.
 pub fn admit(b: &mut Board, list: &mut [u32], q: &AskAdmit) -> Answer {
-    if !is_good(b) {
-        return Answer::plain(number::BROKEN);
-    }
-    if list.len() < DUTIES {
-        return Answer::plain(number::LIST);
-    }
-    if q.clock < b.clock {
-        return Answer::plain(number::CLOCK);
+    if let Some(number) = refused_first(b, list, q.clock) {
+        return Answer::plain(number);
     }
     if !doing_fits(&b.counts, q.doer, q.action, q.first, q.second) {
         return Answer::plain(number::REQUEST);
@@ -109,14 +114,8 @@ pub fn admit(b: &mut Board, list: &mut [u32], q: &AskAdmit) -> Answer {
 
 /// Act: 19, 9, 10, 11, 15, 8.
 pub fn act(b: &mut Board, list: &mut [u32], q: &AskAct) -> Answer {
-    if !is_good(b) {
-        return Answer::plain(number::BROKEN);
-    }
-    if list.len() < DUTIES {
-        return Answer::plain(number::LIST);
-    }
-    if q.clock < b.clock {
-        return Answer::plain(number::CLOCK);
+    if let Some(number) = refused_first(b, list, q.clock) {
+        return Answer::plain(number);
     }
     if !doing_fits(&b.counts, q.doer, q.action, q.first, q.second) {
         return Answer::plain(number::REQUEST);
@@ -164,14 +163,8 @@ pub fn do_duty(b: &mut Board, q: &AskDuty) -> Answer {
 
 /// Withdraw: 19, 9, 10, 12, 8.
 pub fn withdraw(b: &mut Board, list: &mut [u32], q: &AskDuty) -> Answer {
-    if !is_good(b) {
-        return Answer::plain(number::BROKEN);
-    }
-    if list.len() < DUTIES {
-        return Answer::plain(number::LIST);
-    }
-    if q.clock < b.clock {
-        return Answer::plain(number::CLOCK);
+    if let Some(number) = refused_first(b, list, q.clock) {
+        return Answer::plain(number);
     }
     let Some(place) = place_of(b, q.serial) else {
         return Answer::plain(number::NOT_OPEN);
