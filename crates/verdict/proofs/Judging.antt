@@ -3,7 +3,7 @@
 -- after the first that is not permitted, is a failing order.
 use mathlib.Core.Path.{_≡_, refl, sym, ap, subst, _∙_}
 use mathlib.Core.Bool.{Bool, true}
-use mathlib.Core.List.{List, _∷_, _++_}
+use mathlib.Core.List.{List, [], _∷_, _++_}
 use Prim.Native.Nat.{ℕ, _≤_, min}
 use native.Mathlib.Omega.{arith}
 use lib.ListN.{length, take, drop, length-map, length-take}
@@ -90,6 +90,14 @@ module _ (b : Board) (sized : Sized b) (is-good : good b ≡ true) where
   nothing-green asks right none =
       let found = nothing-found (b .holdings) v pool asks (asked (b .duties) asks right) none in
       rw same-state at (fact D s pool pool-right .decided .1 (not-red (b .holdings) v pool limits found))
+
+  -- where no duty is open none is in trouble
+  pub none-green : n ≡ 0 → Green v
+  none-green e =
+      nothing-green
+      []
+      (λ i h. absurd (omega (arith, e, h)))
+      (λ i h. absurd (omega (arith, e, length-take n (b .duties), h)))
 
   -- ---- a duty that gets stuck
 

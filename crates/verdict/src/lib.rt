@@ -13,13 +13,16 @@ ghost use Rattle.board.specs.View.{view};
 ghost use Rattle.verdict.specs.Checked.{Checked};
 ghost use Rattle.verdict.specs.Judging.{Judged};
 
-// Judge a good board: 0 where it is green; else a failing order is written to the start of the list, which
-// has room for it, and its length answered.
+// Judge a good board: 0 where it is green, at once where no duty is open; else a failing order is written to
+// the start of the list, which has room for it, and its length answered.
 fn judge(b: Board, list: &mut [u32]) -> usize
     ensures { λ r. ⌜ (good b ≡ true → maxDuties ≤ length (now (list .entry))
         → Judged (view b) (now (list .entry)) (now (list .exit)) r) ⌝ }
 {
     let n = b.counts.duties as usize;
+    if n == 0 {
+        return 0;
+    }
     let duties = b.duties;
     let holdings = b.holdings;
     let asks = asks::asks_of(b, duties, n);

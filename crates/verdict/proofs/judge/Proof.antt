@@ -1,11 +1,12 @@
--- `verdict::judge` meets its contract: where `trouble_of` finds nothing the board is green, and what it finds
--- makes the order that `write_order` walks a failing one.
+-- `verdict::judge` meets its contract: where no duty is open or `trouble_of` finds nothing the board is
+-- green, and what it finds makes the order that `write_order` walks a failing one.
 use mathlib.Core.Path.{refl}
 use mathlib.Core.Logic.{inl, inr}
+use native.Mathlib.Omega.{arith}
 use borrow.Author.Needs.{needs}
 use Rattle.board.specs.Filler.{Sized}
 use Rattle.board.proofs.Sized.{sized}
-use Rattle.verdict.proofs.Judging.{nothing-green, found-red}
+use Rattle.verdict.proofs.Judging.{nothing-green, none-green, found-red}
 use Rattle.verdict.proofs.judge.Statement.{statement}
 use Rattle.verdict.proofs.judge.Tie as tie
 
@@ -17,10 +18,16 @@ abbrev asked : tie.After-trouble-of → tie.After-asks-of
 asked c = c .before .before
 
 abbrev start : tie.After-asks-of → tie.Start
-start c = c .before .before .before .before .before
+start c = c .before .before .before .before .before .before
 
 cast-n : tie.Need-cast-n
 cast-n c = search needs
+
+returns : tie.Need-returns
+returns c whole room =
+    let s = c .before .before .before in
+    let none = c .if1 .taken in
+    inl (none-green (s .args .b) (size s) whole (omega (arith, none)), refl, refl)
 
 asks-of-requires : tie.Need-asks-of-requires
 asks-of-requires c κs = search needs
@@ -34,8 +41,8 @@ enum-known-trouble c = search needs
 enum-told : tie.Need-enum-told
 enum-told c = search needs
 
-returns : tie.Need-returns
-returns c whole room =
+returns-2 : tie.Need-returns-2
+returns-2 c whole room =
     let searched = c .before .before in
     let asks = asked searched in
     let s = start asks in
@@ -52,8 +59,8 @@ write-order-requires c κs = search needs
 same-length : tie.Need-same-length
 same-length c = search needs
 
-returns-2 : tie.Need-returns-2
-returns-2 c whole room =
+returns-3 : tie.Need-returns-3
+returns-3 c whole room =
     let walked = c .before .before in
     let arranged = walked .before .before .before .before in
     let known = arranged .before .before in
@@ -71,12 +78,13 @@ judge-spec =
     tie.close
     (tie.spec
     cast-n
+    returns
     asks-of-requires
     trouble-of-requires
     enum-known-trouble
     enum-told
-    returns
+    returns-2
     in-order-requires
     write-order-requires
     same-length
-    returns-2)
+    returns-3)
