@@ -12,7 +12,7 @@ ghost use Rattle.act.specs.ActsNow.{actEarlier, ActsNow};
 fn refusal(b: Board, room: usize, q: AskAct) -> u8
     ensures { λ r. ⌜ Answers (actEarlier b room q) r ⌝ }
 {
-    if !records::is_good(b) {
+    if !values::is_good(b) {
         return Answer::BROKEN;
     }
     if room < Board::DUTIES {

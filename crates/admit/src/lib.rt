@@ -38,7 +38,7 @@ fn duty_asked(q: AskAdmit, serial: Serial) -> Duty
 fn refusal(b: Board, room: usize, q: AskAdmit) -> u8
     ensures { λ r. ⌜ Answers (admitEarlier b room q) r ⌝ }
 {
-    if !records::is_good(b) {
+    if !values::is_good(b) {
         return Answer::BROKEN;
     }
     if room < Board::DUTIES {

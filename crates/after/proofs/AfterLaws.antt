@@ -3,7 +3,7 @@
 -- them.
 use mathlib.Core.Path.{_≡_, sym, ap, _∙_}
 use mathlib.Core.Bool.{true}
-use Prim.Native.Nat.{ℕ, _-_}
+use Prim.Native.Nat.{ℕ}
 use lib.ListN.{length, take-append-drop}
 use Rattle.board.specs.declared.Board.{Board}
 use Rattle.board.specs.declared.What.{What}

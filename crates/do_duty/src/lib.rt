@@ -42,7 +42,7 @@ fn time_refusal(duties: [Duty; Board::DUTIES], n: usize, d: Duty, clock: u32) ->
 pub fn do_duty(b: Board, q: AskDo) -> Outcome
     ensures { λ r. ⌜ Does b q (r .answer) (r .board) × Flagged r ⌝ }
 {
-    let whole = records::is_good(b);
+    let whole = values::is_good(b);
     let number = board_refusal(whole, b.clock, q.clock);
     if number != Answer::DONE {
         return outcomes::refused(b, number);

@@ -31,7 +31,7 @@ use Rattle.board.proofs.Answer as An
 use Rattle.board.proofs.Answer.Laws as An′
 use Rattle.board.proofs.Board as B
 use Rattle.board.proofs.Board.Laws as B′
-use Rattle.live.proofs.Steps.{board-val, IsBoard, has}
+use Rattle.lending.proofs.Steps.{board-val, IsBoard, has}
 use Rattle.lent_once.specs.declared.Left.{Left}
 use Rattle.lent_once.proofs.Left as L
 use Rattle.lent_once.proofs.Left.Laws as L′

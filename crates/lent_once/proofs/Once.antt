@@ -50,9 +50,9 @@ use Rattle.board.proofs.Answer as An
 use Rattle.board.proofs.Answer.Laws as An′
 use Rattle.board.proofs.Board as B
 use Rattle.board.proofs.Board.Laws as B′
-use Rattle.live.proofs.Layer.{Call, Q, ask-val, lent-ended, lent-clauses}
-use Rattle.live.proofs.Steps.{board-val, IsBoard, entry-ref, list-ref, board-typed, answer-typed, at-local}
-use Rattle.live.proofs.Steps.{at-field, sets, has, sinks, leaves}
+use Rattle.lending.proofs.Layer.{Call, Q, ask-val, lent-ended, lent-clauses}
+use Rattle.lending.proofs.Steps.{board-val, IsBoard, entry-ref, list-ref, board-typed, answer-typed, at-local}
+use Rattle.lending.proofs.Steps.{at-field, sets, has, sinks, leaves}
 use Rattle.lent_once.proofs.Left as L
 use Rattle.lent_once.proofs.Left.Laws as L′
 use Rattle.lent_once.proofs.Lending.{left, left-val, made, left-typed, at, lends-board, takes-back}

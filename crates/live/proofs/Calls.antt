@@ -9,7 +9,7 @@ use Rattle.requests.proofs.AskWithdraw.Laws as AskWithdraw′
 use Rattle.act.specs.ActsNow.{ActsNow}
 use Rattle.admit.specs.Admits.{Admits}
 use Rattle.withdraw.specs.Withdraws.{Withdraws}
-use Rattle.live.proofs.Layer.{Call}
+use Rattle.lending.proofs.Layer.{Call}
 
 abbrev pub admitting : Call
 admitting = record {

@@ -15,7 +15,8 @@ use Rattle.board.specs.declared.What.{What}
 use Rattle.board.specs.declared.What.the-variants.{Grant, Revoke, Use}
 use Rattle.board.specs.Permitted.{rolesIn}
 use Rattle.troubles.specs.Setting.{userOf, grantsOf, revokesOf, hasRole, isAgainst}
-use Rattle.troubles.specs.Tests.{granted, revoked, needsOpposite, undoes}
+use Rattle.quick_test.specs.Tests.{granted, revoked, needsOpposite, undoes}
+use Rattle.quick_test.proofs.Mending.{and-false}
 
 -- ---- one role more, and one less
 
@@ -53,10 +54,6 @@ one-with-one : (a b : ℕ) → hasRole (bitAnd (withRole 0 a) (withRole 0 b)) �
 one-with-one a b = ap not (common-ones a b) ∙ not-not (ltb a width && eqb b a)
 
 -- ---- what is asked
-
-pub and-false : (a : Bool) → a && false ≡ false
-and-false true = refl
-and-false false = refl
 
 within : (a b c : Bool) → a && (b && c) ≡ b && (a && c)
 within true b c = refl

@@ -9,10 +9,11 @@ use borrow.Author.Tests.{lt-ltb, le-ltb, eq-eqb, ne-eqb}
 use Rattle.board.specs.declared.Duty.{Duty}
 use Rattle.board.specs.Windows.{whollyBefore}
 use Rattle.troubles.specs.declared.setting.Setter.{Setter}
-use Rattle.troubles.specs.Setting.{setterOf, firstMend}
-use Rattle.troubles.specs.Tests.{undoes}
-use Rattle.troubles.proofs.Bits.{undone, undoes-is, and-false}
-use Rattle.troubles.proofs.Mending.{earlierMend}
+use Rattle.troubles.specs.Setting.{setterOf}
+use Rattle.quick_test.specs.Mends.{firstMend}
+use Rattle.quick_test.specs.Tests.{undoes}
+use Rattle.troubles.proofs.Bits.{undone, undoes-is}
+use Rattle.quick_test.proofs.Mending.{and-false, earlierMend}
 
 -- x is wholly before g, and g undoes what x sets
 abbrev mendsLater : Duty → Duty → Bool

@@ -1,11 +1,5 @@
-pub mod MostAndLeast
-pub mod Alone
-pub mod Asking
-pub mod Spoiled
-pub mod NotRed
 pub mod StuckLaws
 pub mod Bits
-pub mod Mending
 pub mod EarlierMend
 pub mod Weighing
 pub mod Gathered

@@ -1,4 +1,3 @@
-pub mod Tests
 pub mod Setting
 pub mod Troubles
 pub mod Reaching

@@ -9,7 +9,7 @@ use Rattle.asks.specs.declared.Ask.{Ask}
 use Rattle.board.specs.declared.Duty.{Duty}
 use Rattle.board.specs.Windows.{whollyBefore}
 use Rattle.troubles.specs.declared.pairs.Reach.{Reach}
-use Rattle.troubles.specs.Tests.{granted, revoked, most, least}
+use Rattle.quick_test.specs.Tests.{granted, revoked, most, least}
 
 -- one duty more
 abbrev pub reachWith : Duty → Ask → Reach → Duty → Reach

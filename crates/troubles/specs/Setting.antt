@@ -1,23 +1,14 @@
 -- The duties that set a holding, in numbers: whom they set, the role granted or revoked as a set, the window.
--- For each of them the earliest end of a duty that can mend what it spoils, so that whether one does is told
--- by one comparison.
-use mathlib.Core.Bool.{Bool, true, false, not, _&&_, _||_, cond}
-use mathlib.Core.List.{List, [], _∷_}
+use mathlib.Core.Bool.{Bool, true, false, not, _&&_, _||_}
 use Prim.Native.Nat.{ℕ}
 use lib.Bits.{bitAnd, bitOr}
-use lib.Dec.{eqb, ltb}
+use lib.Dec.{eqb}
 use Rattle.roles.specs.Roles.{withRole}
 use Rattle.asks.specs.declared.Ask.{Ask}
 use Rattle.board.specs.declared.Duty.{Duty}
 use Rattle.board.specs.declared.What.{What}
 use Rattle.board.specs.declared.What.the-variants.{Grant, Revoke, Use}
-use Rattle.board.specs.Windows.{whollyBefore}
 use Rattle.troubles.specs.declared.setting.Setter.{Setter}
-use Rattle.troubles.specs.Tests.{undoes}
-
--- the last minute
-abbrev pub lastMinute : ℕ
-lastMinute = 4294967295
 
 -- it is a grant or a revoke
 abbrev pub setsOne : Duty → Bool
@@ -54,13 +45,6 @@ setterOf d =
       start = d .start;
       end = d .end;
     }
-
--- the lesser of `best` and the earliest end of a duty that undoes what x sets and that x is wholly before
-unfoldable pub firstMend : Duty → ℕ → List Duty → ℕ
-firstMend x best [] = best
-firstMend x best (g ∷ l) =
-    firstMend x
-    (cond ((whollyBefore x g && undoes (g .what) (x .what)) && ltb (g .end) best) (g .end) best) l
 
 -- ---- what is asked, against what is set
 

@@ -9,8 +9,9 @@ ghost use lib.Dec.{eqb};
 ghost use Rattle.roles.specs.Roles.{withRole};
 ghost use Rattle.acts.specs.Meets.{meetsSets};
 ghost use Rattle.board.specs.declared.Duty.{Duty};
-ghost use Rattle.troubles.specs.Setting.{setterOf, lastMinute, firstMend, isAgainst};
-ghost use Rattle.troubles.specs.Tests.{makesWrong};
+ghost use Rattle.troubles.specs.Setting.{setterOf, isAgainst};
+ghost use Rattle.quick_test.specs.Mends.{lastMinute, firstMend};
+ghost use Rattle.quick_test.specs.Tests.{makesWrong};
 ghost use Rattle.troubles.specs.Reaching.{reachWith, metWith};
 
 // What the duties wholly before one can make of the sets of two users: the doer's and the target's with every

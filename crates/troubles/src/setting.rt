@@ -11,7 +11,8 @@ ghost use lib.ListN.{length, take};
 ghost use Rattle.orders.specs.Lists.{keep};
 ghost use Rattle.board.specs.declared.Duty.{Duty};
 ghost use Rattle.board.specs.Limits.{maxDuties};
-ghost use Rattle.troubles.specs.Setting.{setsOne, setterOf, lastMinute, firstMend};
+ghost use Rattle.troubles.specs.Setting.{setsOne, setterOf};
+ghost use Rattle.quick_test.specs.Mends.{lastMinute, firstMend};
 
 // The last minute.
 const LAST_MINUTE: u32 = 4294967295;

@@ -39,7 +39,7 @@ use Rattle.trails.specs.Walking.{serials, InRange, Walked}
 use Rattle.trails.proofs.Cutting.{trail-written}
 use Rattle.troubles.specs.declared.Trouble.the-variants.{Nothing}
 use Rattle.troubles.specs.Troubles.{Stuck, Troubled}
-use Rattle.troubles.proofs.NotRed.{WithinLimits, good-limits, not-red}
+use Rattle.quick_test.proofs.NotRed.{WithinLimits, good-limits, not-red}
 use Rattle.troubles.proofs.StuckLaws.{first-asks, nothing-found, stuck-by, stuck-open}
 
 module _ (b : Board) (sized : Sized b) (is-good : good b ≡ true) where

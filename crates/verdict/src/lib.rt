@@ -54,7 +54,7 @@ pub fn check_good(b: Board, list: &mut [u32]) -> Answer
 pub fn check(b: Board, list: &mut [u32]) -> Answer
     ensures { λ r. ⌜ Checked b (now (list .entry)) (now (list .exit)) r ⌝ }
 {
-    if !records::is_good(b) {
+    if !values::is_good(b) {
         return Answer::plain(Answer::BROKEN);
     }
     check_good(b, list)

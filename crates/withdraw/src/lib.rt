@@ -13,7 +13,7 @@ ghost use Rattle.withdraw.specs.Withdraws.{withdrawEarlier, Withdraws};
 fn refusal(b: Board, room: usize, q: AskWithdraw) -> u8
     ensures { λ r. ⌜ Answers (withdrawEarlier b room q) r ⌝ }
 {
-    if !records::is_good(b) {
+    if !values::is_good(b) {
         return Answer::BROKEN;
     }
     if room < Board::DUTIES {

@@ -45,8 +45,8 @@ use Rattle.requests.specs.declared.AskDo.{AskDo}
 use Rattle.requests.proofs.AskDo as Q
 use Rattle.requests.proofs.AskDo.Laws as Q′
 use Rattle.do_duty.specs.Does.{Does}
-use Rattle.live.proofs.Steps.{board-val, IsBoard, board-typed, answer-typed, at-local, sets, has, sinks}
-use Rattle.live.proofs.Steps.{leaves}
+use Rattle.lending.proofs.Steps.{board-val, IsBoard, board-typed, answer-typed, at-local, sets, has, sinks}
+use Rattle.lending.proofs.Steps.{leaves}
 use Rattle.live.proofs.do_duty as lent
 use Rattle.live.proofs.do_duty.Symbol as lent-def
 use Rattle.live.proofs.do_duty.Symbol.{name as #lent}

@@ -7,8 +7,8 @@ use Rattle.act.proofs.act.Symbol as value
 use Rattle.act.proofs.act.Symbol.{name as #value}
 use Rattle.act.proofs.act.Met as value-met
 use Rattle.live.proofs.Calls.{acting}
-use Rattle.live.proofs.Layer.{Value, layer}
-use Rattle.live.proofs.Layer.{lent as layered}
+use Rattle.lending.proofs.Layer.{Value, layer}
+use Rattle.lending.proofs.Layer.{lent as layered}
 use Rattle.live.proofs.act as lent
 use Rattle.live.proofs.act.Key.{name as #lent}
 use Rattle.live.proofs.act.Statement as stated

@@ -7,8 +7,8 @@ use Rattle.admit.proofs.admit.Symbol as value
 use Rattle.admit.proofs.admit.Symbol.{name as #value}
 use Rattle.admit.proofs.admit.Met as value-met
 use Rattle.live.proofs.Calls.{admitting}
-use Rattle.live.proofs.Layer.{Value, layer}
-use Rattle.live.proofs.Layer.{lent as layered}
+use Rattle.lending.proofs.Layer.{Value, layer}
+use Rattle.lending.proofs.Layer.{lent as layered}
 use Rattle.live.proofs.admit as lent
 use Rattle.live.proofs.admit.Key.{name as #lent}
 use Rattle.live.proofs.admit.Statement as stated

@@ -56,10 +56,10 @@ use Rattle.do_duty.proofs.do_duty as value
 use Rattle.do_duty.proofs.do_duty.Symbol as value-def
 use Rattle.do_duty.proofs.do_duty.Symbol.{name as #value}
 use Rattle.do_duty.proofs.do_duty.Met as value-met
-use Rattle.live.proofs.Steps.{board-val, answer-val, outcome-val, IsBoard, IsAnswer, IsOutcome, Came}
-use Rattle.live.proofs.Steps.{is-answer, is-board, not-done, board-ref, stacked, borrowed, opened}
-use Rattle.live.proofs.Steps.{board-typed, answer-typed, outcome-typed, at-local, at-field, sets, has}
-use Rattle.live.proofs.Steps.{opens-board, closes-board, sinks, leaves}
+use Rattle.lending.proofs.Steps.{board-val, answer-val, outcome-val, IsBoard, IsAnswer, IsOutcome, Came}
+use Rattle.lending.proofs.Steps.{is-answer, is-board, not-done, board-ref, stacked, borrowed, opened}
+use Rattle.lending.proofs.Steps.{board-typed, answer-typed, outcome-typed, at-local, at-field, sets, has}
+use Rattle.lending.proofs.Steps.{opens-board, closes-board, sinks, leaves}
 use Rattle.live.proofs.do_duty as lent
 use Rattle.live.proofs.do_duty.Key.{name as #lent}
 use Rattle.live.proofs.do_duty.Statement as stated

@@ -55,8 +55,8 @@ use Rattle.calls.proofs.open as value
 use Rattle.calls.proofs.open.Symbol as value-def
 use Rattle.calls.proofs.open.Symbol.{name as #value}
 use Rattle.calls.proofs.open.Met as value-met
-use Rattle.live.proofs.Steps.{answer-val, IsBoard, IsAnswer, borrowed, board-typed, answer-typed}
-use Rattle.live.proofs.Steps.{at-local, at-field, sets, has, opens-board, closes-board, sinks, leaves}
+use Rattle.lending.proofs.Steps.{answer-val, IsBoard, IsAnswer, borrowed, board-typed, answer-typed}
+use Rattle.lending.proofs.Steps.{at-local, at-field, sets, has, opens-board, closes-board, sinks, leaves}
 use Rattle.live.proofs.open as lent
 use Rattle.live.proofs.open.Key.{name as #lent}
 use Rattle.live.proofs.open.Statement as stated

@@ -7,8 +7,8 @@ use Rattle.withdraw.proofs.withdraw.Symbol as value
 use Rattle.withdraw.proofs.withdraw.Symbol.{name as #value}
 use Rattle.withdraw.proofs.withdraw.Met as value-met
 use Rattle.live.proofs.Calls.{withdrawing}
-use Rattle.live.proofs.Layer.{Value, layer}
-use Rattle.live.proofs.Layer.{lent as layered}
+use Rattle.lending.proofs.Layer.{Value, layer}
+use Rattle.lending.proofs.Layer.{lent as layered}
 use Rattle.live.proofs.withdraw as lent
 use Rattle.live.proofs.withdraw.Key.{name as #lent}
 use Rattle.live.proofs.withdraw.Statement as stated

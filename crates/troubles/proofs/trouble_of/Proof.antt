@@ -13,7 +13,7 @@ use Rattle.asks.specs.Asks.{noAsk}
 use Rattle.board.specs.Filler.{noDuty}
 use Rattle.board.specs.Limits.{maxDuties}
 use Rattle.pool.proofs.Turns.{in-turn, at-end}
-use Rattle.troubles.specs.Tests.{canBeMet}
+use Rattle.quick_test.specs.Tests.{canBeMet}
 use Rattle.troubles.proofs.Weighed.{settersIn, Ready, Weighed, weighing-starts, next-weighed}
 use Rattle.troubles.proofs.Weighed.{setter-concerned, next-apart, spoiler, none-spoils, can-be-met-is}
 use Rattle.troubles.proofs.Searching.{Quiet, starts, unasked, alone, spoiled, one-more, over}

@@ -1,0 +1,1 @@
+// What the calls on a lent board share has proofs and no code: see proofs/.
