@@ -5,7 +5,7 @@ use board::Permission;
 use board::Rule;
 use board::What;
 ghost use mathlib.Core.Path.{_≡_};
-ghost use Prim.Native.Nat.{min};
+ghost use Prim.Native.Nat.{_+_, _*_, _<_, min};
 ghost use lib.ListN.{getD, set, take};
 ghost use Rattle.orders.specs.Lists.{find};
 ghost use Rattle.board.specs.View.{view};
@@ -24,11 +24,18 @@ fn within(count: u16, room: usize) -> usize
     if n < room { n } else { room }
 }
 
+// An action and an object in one number, as they stand in memory, so that both are compared at once.
+fn in_one(action: u16, object: u16) -> u32
+    ensures { λ r. ⌜ (r ≡ action + object * 65536) × (action < 65536) ⌝ }
+{
+    action as u32 + object as u32 * 65536
+}
+
 // Whether a permission is for the action and the object.
 fn is_for(p: Permission, action: u16, object: u16) -> bool
     ensures { λ r. ⌜ r ≡ isFor action object p ⌝ }
 {
-    (p.action == action) & (p.object == object)
+    in_one(p.action, p.object) == in_one(action, object)
 }
 
 // What a use of the action on the object asks: the role of its permission, among the first so many.
