@@ -8,9 +8,10 @@ The lines of a listing, in turn:
     do SERIAL at CLOCK
     withdraw SERIAL at CLOCK
     check
+    save LENGTH                                      into a lent buffer of this length
     poke users|roles|permissions|rules|duties|clock|next VALUE
     poke holding|permission|wanted|start|end|serial|doer PLACE VALUE
-    broken .. back OLD                               a poke, each of the five calls, and a poke back to OLD
+    broken .. back OLD                               a poke, each of the six calls, and a poke back to OLD
     kind NUMBER                                      a record of another kind
     bytes COUNT                                      so many zeros, for an incomplete last record
 At the end of a line FIELD=NUMBER sets a field of the record otherwise; lent is 128 where it is not set.
@@ -22,12 +23,12 @@ import struct
 import sys
 
 FIELDS = ('kind', 'lent', 'doer', 'action', 'first', 'second', 'start', 'end', 'clock', 'serial', 'extra')
-KINDS = ('admit', 'act', 'do', 'withdraw', 'check')
+KINDS = ('admit', 'act', 'do', 'withdraw', 'check', 'save')
 POKE = 9
 COUNTS = ('users', 'roles', 'permissions', 'rules', 'duties', 'clock', 'next')
 PLACES = ('holding', 'permission', 'wanted', 'start', 'end', 'serial', 'doer')
 EACH_CALL = ('admit 0 use 2 on 0 0 0 at 0 lent=0', 'act 0 use 2 on 0 at 0 lent=0', 'do 0 at 0',
-             'withdraw 0 at 0 lent=0', 'check lent=0')
+             'withdraw 0 at 0 lent=0', 'check lent=0', 'save 0')
 
 
 class Slip(Exception):
@@ -82,6 +83,8 @@ def fields_of(words):
         return poke(rest)
     if call == 'kind':
         return dict(kind=expect(rest, 'N')[0])
+    if call == 'save':
+        return dict(kind=KINDS.index(call), extra=expect(rest, 'N')[0])
     fields = dict(kind=place_in(call, KINDS), lent=128)
     if call == 'admit':
         doer, start, end, clock = expect(rest[:1] + rest[5:], 'N N N at N')

@@ -1,7 +1,8 @@
 """live_model.py: the live board once more, in Python, written from document 01 alone. It shares nothing with
 the crates: its own reading of a board file, its own test of a board value, its own verdict (every allowed
-order walked, or for large pools the criterion of document 01's fact), its own calls. `replayed` gives the
-lines that `replay` has to print for an input. Needs Python 3 alone."""
+order walked, or for large pools the criterion of document 01's fact), its own calls, its own writing of a
+board file. `replayed` gives the lines that `replay` has to print for an input, `carried` what `carry` has to
+write. Needs Python 3 alone."""
 import struct
 
 USERS, ROLES, PERMISSIONS, RULES, DUTIES = 64, 32, 512, 64, 128
@@ -260,6 +261,28 @@ def read(s):
     return 0, board
 
 
+def file_of(board):
+    """The file that a good board is saved as."""
+    written = [b''.join(struct.pack('<I', h) for h in board.holdings[:board.users]),
+               b''.join(struct.pack('<3H', *p) for p in board.permissions[:board.permits]),
+               b''.join(struct.pack('<4H2I', *r[:3], 0, *r[3:]) for r in board.rules[:board.ruled]),
+               b''.join(struct.pack('<I4H2I', *d) for d in board.pool())]
+    offsets = [40]
+    for part in written:
+        offsets.append(offsets[-1] + len(part))
+    header = struct.pack('<6H7I', 1, board.users, board.roles, board.permits, board.ruled, board.open,
+                         board.clock, board.next, *offsets)
+    return header + b''.join(written)
+
+
+def save(board, lent):
+    """The number, and the bytes written to a buffer of this length."""
+    if not is_good(board):
+        return 19, b''
+    file = file_of(board)
+    return (20, b'') if lent < len(file) else (0, file)
+
+
 # ---- the calls: each gives a number, a serial, the board from then on, and with 8 the board that is red
 
 def opened(s, lent):
@@ -439,21 +462,50 @@ def board_lines(board):
     yield Line('list ok')
 
 
-def replayed(s):
-    """The lines for an input."""
+def after(board, q):
+    """The answer's number and serial, the live board after a record, and with 8 the board that is red."""
+    if q.kind == 9:
+        return 0, 0, poke(board, q), None
+    return CALLS[q.kind](board, q) if q.kind in CALLS else (0, 0, board, None)
+
+
+def session_of(s):
+    """The board file and the records of an input."""
     s = s[:65536]
     length = struct.unpack_from('<I', s)[0] if len(s) >= 4 else 0
-    number, _, board, red = opened(s[4:4 + length], 128)
-    lines = [answer_line('open %d' % number, number, red)]
     records = s[4 + length:]
-    for at in range(0, len(records) - 31, 32):
-        q = Record(*struct.unpack_from(Record.FORMAT, records, at))
+    return s[4:4 + length], [Record(*struct.unpack_from(Record.FORMAT, records, at))
+                             for at in range(0, len(records) - 31, 32)]
+
+
+def save_line(board, q):
+    number, file = save(board, min(q.extra, 8192))
+    return Line('%d 0 %d%s' % (number, len(file), ' ' + file.hex() if file else ''))
+
+
+def replayed(s):
+    """The lines for an input."""
+    file, records = session_of(s)
+    number, _, board, red = opened(file, 128)
+    lines = [answer_line('open %d' % number, number, red)]
+    for q in records:
+        number, serial, left, red = after(board, q)
         if q.kind in CALLS:
-            number, serial, board, red = CALLS[q.kind](board, q)
             lines.append(answer_line('%d %d' % (number, serial), number, red))
-        elif q.kind == 9:
-            board = poke(board, q)
-            lines.append(Line('poke'))
         else:
-            lines.append(Line('?'))
+            lines.append(save_line(board, q) if q.kind == 5 else Line('poke' if q.kind == 9 else '?'))
+        board = left
     return lines + list(board_lines(board))
+
+
+def carried(s):
+    """The board file after the calls, and the line where there is none."""
+    file, records = session_of(s)
+    number, _, board, _ = opened(file, 128)
+    if number == 0:
+        for q in records:
+            board = after(board, q)[2]
+        number = 19 if not is_good(board) else 8 if is_red(board) else 0
+    if number == 0:
+        return file_of(board), ''
+    return b'', 'carry: the board is red\n' if number == 8 else 'carry: refused %d\n' % number

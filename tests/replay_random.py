@@ -58,20 +58,7 @@ def random_file(draw, base):
         if not duties or not model.is_red(board) or draw.random() < 0.1:
             break
         duties.pop(draw.randrange(len(duties)))
-    return file_of(board)
-
-
-def file_of(board):
-    parts = [b''.join(struct.pack('<I', h) for h in board.holdings[:board.users]),
-             b''.join(struct.pack('<3H', *p) for p in board.permissions[:board.permits]),
-             b''.join(struct.pack('<4H2I', *r[:3], 0, *r[3:]) for r in board.rules[:board.ruled]),
-             b''.join(struct.pack('<I4H2I', *d) for d in board.pool())]
-    offsets = [40]
-    for part in parts:
-        offsets.append(offsets[-1] + len(part))
-    header = struct.pack('<6H7I', 1, board.users, board.roles, board.permits, board.ruled, board.open,
-                         board.clock, board.next, *offsets)
-    return header + b''.join(parts)
+    return model.file_of(board)
 
 
 def with_slips(draw, file):
@@ -109,7 +96,7 @@ def pokes(draw, base, board):
     first, second = draw.randrange(14), draw.choice((0, 0, 1, 2, 3, 63, 64, 127, 128, 512))
     extra = draw.choice(EDGES + (base + 3, 2, 3, 5, 7, old_value(board, first, second) + 1) * 2) % 4294967296
     yield packed(kind=9, first=first, second=second, extra=extra)
-    yield call(draw, base, board)
+    yield call(draw, base, board) if draw.random() < 0.9 else packed(kind=5, extra=draw.choice((0, 8192)))
     if draw.random() < 0.9:
         yield packed(kind=9, first=first, second=second, extra=old_value(board, first, second))
 
@@ -135,19 +122,24 @@ def call(draw, base, board):
 def turns(draw, base, board):
     """The records of one turn."""
     which = draw.random()
-    if which < 0.85:
+    if which < 0.8:
         return [call(draw, base, board)]
+    if which < 0.85:
+        return [save(draw, board)]
     if which < 0.98:
         return pokes(draw, base, board)
-    return [packed(kind=draw.choice((5, 6, 7, 8, 10, 11, 12, 13, 65535)), first=7, extra=1)]
+    return [packed(kind=draw.choice((6, 7, 8, 10, 11, 12, 13, 65535)), first=7, extra=1)]
+
+
+def save(draw, board):
+    """A save into a buffer that is often as long as the file, or about as long."""
+    length = len(model.file_of(board))
+    return packed(kind=5, extra=draw.choice((length, length, length - 1, length + 1, 8192) + EDGES))
 
 
 def after(board, record):
     """The live board after a record."""
-    q = model.Record(*struct.unpack(model.Record.FORMAT, record))
-    if q.kind == 9:
-        return model.poke(board, q)
-    return model.CALLS[q.kind](board, q)[2] if q.kind in model.CALLS else board
+    return model.after(board, model.Record(*struct.unpack(model.Record.FORMAT, record)))[2]
 
 
 def session(draw):

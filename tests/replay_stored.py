@@ -1,8 +1,8 @@
 #!/usr/bin/env python3
-"""replay_stored.py: makes the stored run of `replay`, its stdin and stdout, from crates/replay/calls.txt.
+"""replay_stored.py: makes the stored runs of `replay` and `carry`, stdin and stdout, from their calls.txt.
 
-stdout is not what the program printed: it comes from the model of live_model.py, which shares nothing with
-the program. The model has to find each failing order to be the only one, else this stops; so every line is
+stdout is not what the program wrote: it comes from the model of live_model.py, which shares nothing with the
+programs. The model has to find each failing order to be the only one, else this stops; so every line is
 settled. The answers that are met are listed at the end. Needs Python 3 alone."""
 import os
 import sys
@@ -14,17 +14,31 @@ sys.path.insert(0, os.path.join(HERE, '..', 'samples'))
 import replay  # noqa: E402
 
 
-def main():
-    crate = os.path.join(HERE, '..', 'crates', 'replay')
+def store(name, written):
+    """Makes a program's stdin from its calls, and stdout as what is to be written for it."""
+    crate = os.path.join(HERE, '..', 'crates', name)
     whole = replay.replay_input(os.path.join(crate, 'calls.txt'))
     assert len(whole) <= 65536
-    lines = [line.settled() for line in model.replayed(whole)]
-    with open(os.path.join(crate, 'stdin'), 'wb') as out:
-        out.write(whole)
-    with open(os.path.join(crate, 'stdout'), 'w') as out:
-        out.write('\n'.join(lines) + '\n')
-    met = sorted({int(line.split()[0]) for line in lines if line[0].isdigit()})
-    print('%d lines; answers met by calls: %s' % (len(lines), ' '.join(str(number) for number in met)))
+    for file, content in (('stdin', whole), ('stdout', written(whole))):
+        with open(os.path.join(crate, file), 'wb') as out:
+            out.write(content)
 
 
-main()
+def lines(whole):
+    """What replay is to print."""
+    settled = [line.settled() for line in model.replayed(whole)]
+    met = sorted({int(line.split()[0]) for line in settled if line[0].isdigit()})
+    print('%d lines; answers met by calls: %s' % (len(settled), ' '.join(str(number) for number in met)))
+    return ''.join(line + '\n' for line in settled).encode()
+
+
+def file_after(whole):
+    """What carry is to write."""
+    file, refused = model.carried(whole)
+    assert not refused, refused
+    print('a board file of %d bytes' % len(file))
+    return file
+
+
+store('replay', lines)
+store('carry', file_after)

@@ -26,10 +26,11 @@ list ok
 SLIPS = {
     'do Raj at 5': 'do: Raj is to be a number',
     'do 1': 'do: expected N at N, N a number',
-    'remove 1 at 5': 'remove: remove is to be one of: admit act do withdraw check',
+    'remove 1 at 5': 'remove: remove is to be one of: admit act do withdraw check save',
     'act 0 grant 2 from 3 at 1': 'act: from is to be to',
     'act 0 revoke 2 to 3 at 1': 'act: to is to be from',
     'admit 0 use 2 on 0 1 at 3': 'admit: expected N N N at N, N a number',
+    'save all': 'save: all is to be a number',
     'check now': 'check: expected nothing more, N a number',
     'do 1 at 4294967296': 'do: 4294967296 is too large',
     'check lnt=3': f'check: lnt is to be one of: {" ".join(FIELDS)}',

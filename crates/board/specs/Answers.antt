@@ -31,6 +31,10 @@ plainAnswer number = record { number = number; serial = record { 0 = 0 }; length
 abbrev pub doneAnswer : ℕ → Answer
 doneAnswer serial = record { number = answer.done; serial = record { 0 = serial }; length = 0 }
 
+-- done, with so many bytes written
+abbrev pub writtenAnswer : ℕ → Answer
+writtenAnswer length = record { number = answer.done; serial = record { 0 = 0 }; length = length }
+
 -- red, with a failing order of this length
 abbrev pub redAnswer : ℕ → Answer
 redAnswer length = record { number = answer.red; serial = record { 0 = 0 }; length = length }

@@ -80,3 +80,7 @@ long = 18
 -- the board value given breaks a file rule
 abbrev pub broken : ℕ
 broken = 19
+
+-- lent buffer shorter than the file
+abbrev pub room : ℕ
+room = 20

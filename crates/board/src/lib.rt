@@ -1,7 +1,7 @@
 // The board: who holds which role, permissions, rules and duties, its limits, its filler and the smallest
 // board; and what a call answers.
 ghost use mathlib.Core.Path.{_≡_};
-ghost use Rattle.board.specs.Answers.{plainAnswer, doneAnswer, redAnswer};
+ghost use Rattle.board.specs.Answers.{plainAnswer, doneAnswer, writtenAnswer, redAnswer};
 ghost use Rattle.board.specs.Filler.{noPermission, noRule, noDuty, smallestBoard};
 
 // A duty is called by its serial and never by its place in the pool.
@@ -159,8 +159,8 @@ impl Board {
     }
 }
 
-// What a call answers: its number, the serial of a duty that was admitted (else 0), and the length of the
-// failing order at the start of the lent list (0 where there is none).
+// What a call answers: its number, the serial of a duty that was admitted (else 0), and the length of what
+// stands at the start of the lent list or buffer: a failing order, or a saved file (0 where there is none).
 pub struct Answer {
     pub number: u8,
     pub serial: Serial,
@@ -209,6 +209,8 @@ impl Answer {
 
     pub const BROKEN: u8 = 19;
 
+    pub const ROOM: u8 = 20;
+
     // The answer with this number, no serial and no failing order.
     pub fn plain(number: u8) -> Self
         ensures { λ r. ⌜ r ≡ plainAnswer number ⌝ }
@@ -229,6 +231,18 @@ impl Answer {
             number: Answer::DONE,
             serial,
             length: 0,
+        }
+    }
+
+    // Done, with so many bytes written to the lent buffer.
+    pub fn written(length: usize) -> Self
+        ensures { λ r. ⌜ r ≡ writtenAnswer length ⌝ }
+    {
+        let serial = Serial(0);
+        Answer {
+            number: Answer::DONE,
+            serial,
+            length,
         }
     }
 

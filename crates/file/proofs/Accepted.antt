@@ -24,7 +24,7 @@ use Rattle.board.proofs.AnswersLaws.{Refusing, none-done, none-first, none-seco
 use Rattle.board.proofs.InRange.{CountsInRange, counts→range}
 use Rattle.board.proofs.FillerLaws.{FillerBeyond, beyond→filler}
 use Rattle.board.proofs.GoodLaws.{parts→good}
-use Rattle.file.specs.Layout.{headerSize, countsOf, clockOf, nextOf, statedTotal, totalOf, laidOut}
+use Rattle.layout.specs.Layout.{headerSize, countsOf, clockOf, nextOf, statedTotal, totalOf, laidOut}
 use Rattle.file.specs.Records.{holdingAt, permissionAt, ruleAt, ruleSpare, dutyAt, secondFitsAt}
 use Rattle.file.specs.Records.{faultOf, isAbove, firstFault}
 use Rattle.file.specs.Reads.{headerChecks, recordChecks, readChecks, boardOf}
@@ -87,7 +87,7 @@ module _ (s : List ℕ) where
 
 -- ---- no fault
 
-faultless :
+pub faultless :
     {P : Type 0} (fits window above : Bool) → faultOf fits window above ≡ 0
     → (fits ≡ true → window ≡ true → above ≡ true → P) → P
 faultless true true true e f = f refl refl refl

@@ -44,7 +44,7 @@ module _ {A : Type 0} (lower : A → A → Bool) where
 module _ {A : Type 0} (at : ℕ → A) where
   -- ---- the records of a part
 
-  records-length : (n : ℕ) → length (map at (below n)) ≡ n
+  pub records-length : (n : ℕ) → length (map at (below n)) ≡ n
   records-length n = length-map (below n) at ∙ length-below n
 
   pub all-fit :

@@ -17,7 +17,7 @@ use Rattle.board.specs.Good as g
 use Rattle.board.specs.Numbers as answer
 use Rattle.board.specs.Permitted.{below}
 use Rattle.board.specs.Windows.{windowFits}
-use Rattle.file.specs.Layout.{countsOf, nextOf}
+use Rattle.layout.specs.Layout.{countsOf, nextOf}
 use Rattle.file.specs.Parts.{sizeOf, faultAt}
 use Rattle.file.specs.Reads.{recordChecks}
 use Rattle.file.specs.Records.{holdingAt, permissionAt, ruleAt, ruleSpare, dutyAt}
@@ -93,6 +93,10 @@ module _ (fault : ℕ → ℕ) where
         | yes l ↦ none-below n i (z .0) l
         | no l ↦ (let q : i ≡ n = omega arith in rw q (z .1))
       ]
+
+  all-none : (n : ℕ) → ((i : ℕ) → i < n → fault i ≡ 0) → firstIn fault n ≡ 0
+  all-none zero none = refl
+  all-none (suc n) none = rw (all-none n (λ i h. none i (omega arith)), none n (omega arith))
 
   first-keeps : (P : ℕ → Type 0) → P 0 → ((i : ℕ) → P (fault i)) → (n : ℕ) → P (firstIn fault n)
   first-keeps P z each zero = z
@@ -187,3 +191,13 @@ no-fault s e =
     none part h i k =
         none-below (faultAt s part) (sizeOf (countsOf s) part) i
         (none-below (partFault s) partCount part (sym (first-by-parts s) ∙ e) h) k
+
+pub faultless-first : (s : List ℕ) → NoFault s → firstFault s ≡ 0
+faultless-first s none = first-by-parts s ∙ all-none (partFault s) partCount part-none
+  where
+    part-none : (part : ℕ) → part < partCount → partFault s part ≡ 0
+    part-none zero h = all-none (faultAt s 0) (countsOf s .users) (none .holdings)
+    part-none (suc zero) h = all-none (faultAt s 1) (countsOf s .permissions) (none .permissions)
+    part-none (suc (suc zero)) h = all-none (faultAt s 2) (countsOf s .rules) (none .rules)
+    part-none (suc (suc (suc zero))) h = all-none (faultAt s 3) (countsOf s .duties) (none .duties)
+    part-none (suc (suc (suc (suc part)))) h = absurd (omega arith)

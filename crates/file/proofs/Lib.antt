@@ -3,4 +3,3 @@ pub mod Filled
 pub mod FirstFault
 pub mod Accepted
 pub mod Settled
-pub mod Longest

@@ -6,7 +6,7 @@ use Prim.Native.Nat.{ℕ, _≤_}
 use lib.Dec.{eqb}
 use lib.ListN.{length}
 use Rattle.board.specs.declared.Counts.{Counts}
-use Rattle.file.specs.Layout.{countsOf, totalOf}
+use Rattle.layout.specs.Layout.{countsOf, totalOf}
 use Rattle.file.specs.Records.{holdingFault, permissionFault, ruleFault, dutyFault}
 
 -- these are the header's counts, and the file goes on to where its last part ends

@@ -12,15 +12,15 @@ use Rattle.board.specs.Limits.{maxUsers, maxPermissions, maxRules, maxDuties}
 use Rattle.board.specs.Numbers as answer
 use Rattle.board.specs.Permitted.{below}
 use Rattle.file.specs.declared.Reading.{Reading}
-use Rattle.file.specs.Bytes.{two}
-use Rattle.file.specs.Layout.{headerSize, countsOf, clockOf, nextOf, statedTotal, longest, laidOut}
+use Rattle.layout.specs.Bytes.{two}
+use Rattle.layout.specs.Layout.{version, headerSize, countsOf, clockOf, nextOf, statedTotal, longest, laidOut}
 use Rattle.file.specs.Records.{holdingAt, permissionAt, ruleAt, dutyAt, faultNumbers, firstFault}
 
 -- the checks of the header
 abbrev pub headerChecks : List ℕ → List Check
 headerChecks s =
     check answer.short (length s < headerSize)
-    ∷ (check answer.version (two s 0 ≡ 1 → ⊥)
+    ∷ (check answer.version (two s 0 ≡ version → ⊥)
     ∷ (check answer.count (countsFit (countsOf s) (nextOf s) ≡ false)
     ∷ (check answer.layout (laidOut s ≡ false)
     ∷ (check answer.long (longest < statedTotal s) ∷ []))))

@@ -13,9 +13,9 @@ use Rattle.board.specs.Good as g
 use Rattle.board.specs.Numbers as answer
 use Rattle.board.specs.Permitted.{below}
 use Rattle.board.specs.Windows.{windowFits}
-use Rattle.file.specs.Bytes.{two, four}
-use Rattle.file.specs.Layout.{countsOf, nextOf, holdingsFrom, permissionsFrom, rulesFrom, dutiesFrom}
-use Rattle.file.specs.Layout.{holdingSize, permissionSize, ruleSize, dutySize}
+use Rattle.layout.specs.Bytes.{two, four}
+use Rattle.layout.specs.Layout.{countsOf, nextOf, holdingsFrom, permissionsFrom, rulesFrom, dutiesFrom}
+use Rattle.layout.specs.Layout.{holdingSize, permissionSize, ruleSize, dutySize}
 
 -- ---- what the bytes of one record say
 

@@ -2,7 +2,7 @@
 ghost use mathlib.Core.Path.{_≡_};
 ghost use Prim.Native.Nat.{_+_, _≤_, _<_};
 ghost use lib.ListN.{length};
-ghost use Rattle.file.specs.Bytes.{two, four};
+ghost use Rattle.layout.specs.Bytes.{two, four};
 
 // A byte in two bytes.
 fn wide(x: u8) -> u16

@@ -12,8 +12,8 @@ use board::Counts;
 ghost use mathlib.Core.Path.{_≡_};
 ghost use Prim.Native.Nat.{_+_, _*_, _≤_};
 ghost use lib.ListN.{length};
-ghost use Rattle.file.specs.Layout.{countsOf, holdingsFrom, permissionsFrom, rulesFrom, dutiesFrom};
-ghost use Rattle.file.specs.Layout.{holdingSize, permissionSize, ruleSize, dutySize};
+ghost use Rattle.layout.specs.Layout.{countsOf, holdingsFrom, permissionsFrom, rulesFrom, dutiesFrom};
+ghost use Rattle.layout.specs.Layout.{holdingSize, permissionSize, ruleSize, dutySize};
 ghost use Rattle.file.specs.Records.{faultOf, holdingFault, permissionFault, ruleFault, dutyFault};
 
 // The fault by its three tests, in their order.

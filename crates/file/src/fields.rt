@@ -1,7 +1,6 @@
 // What the bytes of one record of a board file say. Records are numbered from 0 within their part.
 use crate::bytes::four_at;
 use crate::bytes::two_at;
-use crate::layout;
 use board::Counts;
 use board::Duty;
 use board::Permission;
@@ -10,8 +9,8 @@ use board::Serial;
 ghost use mathlib.Core.Path.{_≡_};
 ghost use Prim.Native.Nat.{_+_, _*_, _≤_};
 ghost use lib.ListN.{length};
-ghost use Rattle.file.specs.Layout.{countsOf, holdingsFrom, permissionsFrom, rulesFrom, dutiesFrom};
-ghost use Rattle.file.specs.Layout.{holdingSize, permissionSize, ruleSize, dutySize};
+ghost use Rattle.layout.specs.Layout.{countsOf, holdingsFrom, permissionsFrom, rulesFrom, dutiesFrom};
+ghost use Rattle.layout.specs.Layout.{holdingSize, permissionSize, ruleSize, dutySize};
 ghost use Rattle.file.specs.Records.{holdingAt, permissionAt, ruleAt, ruleSpare};
 ghost use Rattle.file.specs.Records.{dutyAt, secondFitsAt};
 

@@ -1,7 +1,6 @@
 // The header of a board file: its counts, its next serial, and its checks in document 01's order.
 use crate::bytes::four_at;
 use crate::bytes::two_at;
-use crate::layout;
 use board::Answer;
 use board::Counts;
 use board::Serial;
@@ -10,7 +9,7 @@ ghost use Prim.Native.Nat.{_≤_};
 ghost use lib.ListN.{length};
 ghost use Rattle.board.specs.Answers.{Answers};
 ghost use Rattle.board.specs.Good.{countsFit};
-ghost use Rattle.file.specs.Layout.{headerSize, countsOf, nextOf, laidOut};
+ghost use Rattle.layout.specs.Layout.{headerSize, countsOf, nextOf, laidOut};
 ghost use Rattle.file.specs.Reads.{headerChecks};
 
 // The counts in the header.
@@ -70,7 +69,7 @@ pub(crate) fn header_answer(s: &[u8]) -> u8
     if s.len() < layout::HEADER {
         return Answer::SHORT;
     }
-    if two_at(s, layout::VERSION_AT) != 1 {
+    if two_at(s, layout::VERSION_AT) != layout::VERSION {
         return Answer::VERSION;
     }
     if !counts_right(s) {

@@ -3,7 +3,6 @@ mod bytes;
 mod faults;
 mod fields;
 mod header;
-mod layout;
 mod parts;
 mod reads;
 
@@ -14,7 +13,6 @@ use header::header_answer;
 use parts::first_fault;
 use reads::board_of;
 ghost use Rattle.file.specs.Reads.{Reads};
-pub use layout::LONGEST;
 
 // What reading a file gives: an answer number, and the board (the smallest, where the file is refused).
 pub struct Reading {

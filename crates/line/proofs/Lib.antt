@@ -1,4 +1,3 @@
-pub mod PutLaws
 pub mod Settled
 pub mod Words
 pub mod NumberLaws

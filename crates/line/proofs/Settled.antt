@@ -4,8 +4,9 @@ use mathlib.Core.Path.{_≡_}
 use mathlib.Core.List.{List}
 use Prim.Native.Nat.{ℕ}
 use Rattle.board.specs.declared.Answer.{Answer}
-use Rattle.line.specs.Line.{lineOf, Put}
-use Rattle.line.proofs.PutLaws.{put-once}
+use Rattle.put.specs.Put.{Put}
+use Rattle.line.specs.Line.{lineOf}
+use Rattle.put.proofs.PutLaws.{put-once}
 
 pub same-line :
     (r : Answer) (duties : ℕ) (list before after after′ : List ℕ) (n n′ : ℕ)

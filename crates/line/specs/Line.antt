@@ -1,10 +1,9 @@
 -- The line that is printed for an answer: document 01, section Small boards, last paragraph.
-use mathlib.Core.Path.{_≡_}
 use mathlib.Core.Bool.{cond}
 use mathlib.Core.List.{List, [], _∷_, _++_}
-use Prim.Native.Nat.{ℕ, zero, suc, _+_, _/_, _%_, _≤_, min}
+use Prim.Native.Nat.{ℕ, zero, suc, _+_, _/_, _%_, min}
 use lib.Dec.{eqb, ltb}
-use lib.ListN.{length, take, drop}
+use lib.ListN.{take}
 use Rattle.board.specs.declared.Answer.{Answer}
 use Rattle.board.specs.Limits.{maxDuties}
 use Rattle.board.specs.Numbers as answer
@@ -55,11 +54,3 @@ lineOf r duties list =
     (cond (eqb (r .number) answer.red)
     (no ++ (numbers (r .length ∷ take (min (r .length) maxDuties) list) ++ newline))
     (refused ++ (numbers (r .number ∷ []) ++ newline)))
-
--- these bytes are put at the place, nothing else is changed, and `next` is the place after them, in the room;
--- the room keeps its length
-pub record Put (bytes before : List ℕ) (at : ℕ) (after : List ℕ) (next : ℕ) : Type 0 where
-  pub list : after ≡ take at before ++ (bytes ++ drop (at + length bytes) before)
-  pub place : next ≡ at + length bytes
-  pub fits : next ≤ length before
-  pub kept : length after ≡ length before

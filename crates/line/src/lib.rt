@@ -6,8 +6,8 @@ ghost use mathlib.Core.List.{[], _∷_, _++_};
 ghost use Prim.Native.Nat.{_+_, _-_, _*_, _%_, _≤_, min};
 ghost use lib.ListN.{length, take, drop};
 ghost use Rattle.board.specs.Limits.{maxDuties};
+ghost use Rattle.put.specs.Put.{Put};
 ghost use Rattle.line.specs.Line.{maxDigits, decimal, maxNumber, numbers, maxWord, newline, lineOf};
-ghost use Rattle.line.specs.Line.{Put};
 
 // The most bytes of a word.
 const WORD: usize = 7;

@@ -5,8 +5,9 @@ use Prim.Native.Nat.{ℕ, _+_, _≤_, min}
 use native.Mathlib.Omega.{arith}
 use lib.ListN.{length, take, length-take}
 use lib.Seq.{length-take-le}
-use Rattle.file.specs.Layout.{longest}
-use Rattle.line.specs.Line.{lineOf, Put}
+use Rattle.layout.specs.Layout.{longest}
+use Rattle.line.specs.Line.{lineOf}
+use Rattle.put.specs.Put.{Put}
 use Rattle.line.proofs.NumberLaws.{take-min}
 use Rattle.calls.specs.declared.Opened.{Opened}
 use Rattle.calls.specs.Opens.{Opens}

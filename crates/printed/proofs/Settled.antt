@@ -5,7 +5,8 @@ use mathlib.Core.Path.{_≡_, subst}
 use mathlib.Core.List.{List}
 use Prim.Native.Nat.{ℕ}
 use Rattle.board.specs.Told.{OneOrder}
-use Rattle.line.specs.Line.{lineOf, Put}
+use Rattle.line.specs.Line.{lineOf}
+use Rattle.put.specs.Put.{Put}
 use Rattle.line.proofs.Settled.{same-line}
 use Rattle.calls.specs.declared.Opened.{Opened}
 use Rattle.calls.proofs.Settled.{same-board, same-opening}

@@ -3,8 +3,9 @@ use mathlib.Core.List.{List}
 use Prim.Native.Nat.{ℕ, _+_}
 use lib.ListN.{take, replicate}
 use Rattle.board.specs.Limits.{maxDuties}
-use Rattle.file.specs.Layout.{longest}
-use Rattle.line.specs.Line.{lineOf, Put}
+use Rattle.layout.specs.Layout.{longest}
+use Rattle.line.specs.Line.{lineOf}
+use Rattle.put.specs.Put.{Put}
 use Rattle.calls.specs.declared.Opened.{Opened}
 use Rattle.calls.specs.Opens.{Opens}
 

@@ -9,8 +9,8 @@ ghost use Rattle.printed.specs.Printed.{cut, Printed};
 fn cut_length(input: &[u8]) -> usize
     ensures { λ r. ⌜ r ≡ length (cut (now (input .entry))) ⌝ }
 {
-    if file::LONGEST < input.len() {
-        file::LONGEST + 1
+    if layout::LONGEST < input.len() {
+        layout::LONGEST + 1
     } else {
         input.len()
     }

@@ -6,4 +6,5 @@ pub mod CarriedOut
 pub mod Denied
 pub mod Serials
 pub mod Settled
+pub mod Saved
 pub mod Worthless

@@ -1,30 +1,31 @@
 -- A serial is never given twice on one live board. The idea: the next serial never falls, every open serial
 -- is below it, and an accepted admission answers it and raises it by one.
-use mathlib.Core.Path.{_≡_, ap, _∙_}
+use mathlib.Core.Path.{_≡_, refl, ap, _∙_}
 use mathlib.Core.Logic.{⊎-elim}
 use mathlib.Core.List.{List, [], _∷_, _++_, List·Memᴰ·append-cases}
 use Prim.Native.Nat.{ℕ, _+_, _≤_, _<_}
 use native.Mathlib.Omega.{arith}
 use lib.Dec.{eqb}
+use lib.ListN.{length}
 use borrow.Author.Tests.{eqb-true}
 use Rattle.orders.specs.Lists.{Mem, Pairwise}
 use Rattle.orders.proofs.Lists.{at-cons, pairwise-append}
 use Rattle.orders.proofs.Tests.{by-test}
 use Rattle.board.specs.declared.Answer.{Answer}
 use Rattle.board.specs.declared.Board.{Board}
-use Rattle.board.specs.Called.{Called}
 use Rattle.board.specs.Numbers as answer
 use Rattle.board.specs.Saying.{boardSaying}
 use Rattle.board.specs.View.{View, view}
 use Rattle.board.specs.Answers.{NoneApplies}
 use Rattle.board.proofs.GoodLaws.{good→records, records→range}
 use Rattle.board.proofs.SayingLaws.{view-saying}
-use Rattle.promises.specs.Calls.{Call, admit, act, doDuty, withdraw, check, Keeps, Made, Calls}
+use Rattle.requests.specs.declared.AskAdmit.{AskAdmit}
+use Rattle.admit.specs.Admits.{afterAdmit, admitChecks, Admits}
+use Rattle.promises.specs.Calls.{Call, admit, act, doDuty, withdraw, check, save, Keeps, Made, Calls}
 use Rattle.promises.specs.Given.{given, allGiven, NeverTwice}
 use Rattle.promises.specs.GoodAndGreen.{Whole}
 use Rattle.promises.proofs.AfterCalls.{after-fits}
-use Rattle.promises.proofs.Kept.{checksOf, afterCall, serialOf, lent, refusing, kept-called, done→none}
-use Rattle.promises.proofs.Kept.{either-way}
+use Rattle.promises.proofs.Kept.{checksOf, afterCall, kept, done→none}
 use Rattle.promises.proofs.StaysGreen.{step-whole}
 
 -- These serials were given, each once, between one value of the next serial and another.
@@ -77,25 +78,25 @@ module _ (b : Board) (w : Whole b) where
   next-rises (doDuty q) = omega arith
   next-rises (withdraw before q) = omega arith
   next-rises (check before) = omega arith
+  next-rises (save before) = omega arith
 
-  module _ (call : Call) (r : Answer) (left : Board) (after : List ℕ) (k : Keeps b call r left after) where
-    called : Called (checksOf b call) b (afterCall b call) (serialOf b call) (lent call) after r left
-    called = kept-called b (w .sized) call r left after k
+  -- the next serial does not fall
+  rises :
+      (call : Call) (r : Answer) (left : Board) (after : List ℕ) → Keeps b call r left after
+      → b .next .0 ≤ left .next .0
+  rises call r left after k =
+      kept b call r left after k (λ (c : Board). b .next .0 ≤ c .next .0)
+      (λ none. omega (arith, next-after call none, next-rises call)) (omega arith)
 
-    -- the next serial does not fall
-    rises : b .next .0 ≤ left .next .0
-    rises =
-        either-way (checksOf b call) b (afterCall b call) (serialOf b call) (lent call) after r left
-        (refusing b call) called (λ (c : Board). b .next .0 ≤ c .next .0)
-        (λ none. omega (arith, next-after call none, next-rises call)) (omega arith)
-
-    -- accepted, it is what the promise says
-    left-next : r .number ≡ answer.done → left .next .0 ≡ afterCall b call .next
-    left-next e =
-        let none =
-        done→none (checksOf b call) b (afterCall b call) (serialOf b call) (lent call) after r left
-        (refusing b call) called e in
-        ap (λ (c : Board). c .next .0) (called .accepted e .0) ∙ next-after call none
+  -- after an accepted admission it is what the promise says
+  admitted-next :
+      (before after : List ℕ) (q : AskAdmit) (r : Answer) (left : Board) → Admits b before q r left after
+      → r .number ≡ answer.done → left .next .0 ≡ afterAdmit b q .next
+  admitted-next before after q r left k e =
+      let none =
+      done→none (admitChecks b (length before) q) b (afterAdmit b q) (b .next .0) before after r left refl k e
+      in
+      ap (λ (c : Board). c .next .0) (k .accepted e .0) ∙ next-after (admit before q) none
 
   call-gives :
       (call : Call) (r : Answer) (left : Board) (after : List ℕ) → Keeps b call r left after
@@ -104,12 +105,13 @@ module _ (b : Board) (w : Whole b) where
   call-gives (doDuty q) r left after k = none-between _ _ (rises (doDuty q) r left after k)
   call-gives (withdraw before q) r left after k = none-between _ _ (rises (withdraw before q) r left after k)
   call-gives (check before) r left after k = none-between _ _ (rises (check before) r left after k)
+  call-gives (save before) r left after k = none-between _ _ (rises (save before) r left after k)
   call-gives (admit before q) r left after k =
       by-test
       (eqb (r .number) answer.done)
       (λ t.
       let e = eqb-true (r .number) answer.done t in
-      rw t (one-between _ _ (r .serial .0) (k .accepted e .1) (left-next (admit before q) r left after k e)))
+      rw t (one-between _ _ (r .serial .0) (k .accepted e .1) (admitted-next before after q r left k e)))
       (λ f. rw f (none-between _ _ (rises (admit before q) r left after k)))
 
 -- ---- any calls

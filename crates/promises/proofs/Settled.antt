@@ -1,8 +1,9 @@
 -- Two outcomes of one call that keep its promise are equal, but for the choice of failing order with 8: there
 -- number, board, serial and the list beyond each order are settled. (docs/FAILING-ORDERS.md: why it is free.)
-use mathlib.Core.Path.{_≡_, sym, ap, _∙_}
+use mathlib.Core.Path.{_≡_, refl, sym, ap, _∙_}
 use mathlib.Core.List.{List, []}
 use Prim.Native.Nat.{ℕ}
+use native.Mathlib.Omega.{arith}
 use lib.Dec.{eqb}
 use lib.ListN.{length, take, drop}
 use lib.Seq.{take-at, drop-at}
@@ -15,14 +16,16 @@ use Rattle.board.specs.Called.{Called}
 use Rattle.board.specs.Numbers as answer
 use Rattle.board.specs.Told.{Told, OrderTold}
 use Rattle.board.specs.View.{View, view}
-use Rattle.board.proofs.AnswersLaws.{same-answer}
+use Rattle.board.proofs.AnswersLaws.{same-answer, never-answered}
 use Rattle.board.proofs.ToldLaws.{same-told}
+use Rattle.save.specs.Saves.{saveChecks}
+use Rattle.save.proofs.Settled.{same-save}
 use Rattle.verdict.specs.Checked.{checkChecks}
 use Rattle.admit.specs.Admits.{afterAdmit, admitChecks}
 use Rattle.act.specs.ActsNow.{afterAct, actChecks}
 use Rattle.do_duty.specs.Does.{afterDo, doChecks}
 use Rattle.withdraw.specs.Withdraws.{afterWithdraw, withdrawChecks}
-use Rattle.promises.specs.Calls.{Call, admit, act, doDuty, withdraw, check, Keeps}
+use Rattle.promises.specs.Calls.{Call, admit, act, doDuty, withdraw, check, save, Keeps}
 use Rattle.promises.specs.Settled.{Settled}
 use Rattle.promises.proofs.Kept.{lent}
 
@@ -109,3 +112,16 @@ call-settled b (check before) after after′ r r′ left left′ j k =
     let number = same-answer checks (r .number) (r′ .number) (j .0 .number) (k .0 .number) in
     told-settled (view b) before after after′ r r′ left left′ (j .0 .told) (k .0 .told) number
     (j .0 .serial ∙ sym (k .0 .serial)) (j .1 ∙ sym (k .1))
+call-settled b (save before) after after′ r r′ left left′ j k =
+    let same = same-save b before after after′ r r′ (j .0) (k .0) in
+    record {
+      number = ap (λ (a : Answer). a .number) (same .0);
+      serial = ap (λ (a : Answer). a .serial .0) (same .0);
+      board = j .1 ∙ sym (k .1);
+      equal = λ f. same;
+      chosen = λ h. same;
+      beyond = λ e.
+          absurd
+          (never-answered answer.red (saveChecks b (length before)) (r .number) (λ q. omega arith) refl
+          (j .0 .number) e);
+    }

@@ -17,8 +17,7 @@ use Rattle.calls.specs.Opens.{Opens}
 use Rattle.calls.proofs.Tick.{open-ticks, opened-right}
 use Rattle.promises.specs.Calls.{Call, Keeps, Made, Calls}
 use Rattle.promises.specs.GoodAndGreen.{Whole, GoodAndGreen}
-use Rattle.promises.proofs.Kept.{checksOf, afterCall, serialOf, lent}
-use Rattle.promises.proofs.Kept.{refusing, kept-called, either-way}
+use Rattle.promises.proofs.Kept.{afterCall, kept}
 use Rattle.promises.proofs.AfterCalls.{after-fits, after-green}
 
 saying-whole : (v : View) → ViewFits v → Whole (boardSaying v)
@@ -30,15 +29,13 @@ module _
     -- a good board value stays good
     pub step-whole : Whole b → Whole left
     step-whole w =
-        either-way (checksOf b call) b (afterCall b call) (serialOf b call) (lent call) after r left
-        (refusing b call) (kept-called b (w .sized) call r left after k) Whole
+        kept b call r left after k Whole
         (λ none. saying-whole (afterCall b call) (after-fits b w call none)) w
 
     -- and a green one stays green
     pub step-green : GoodAndGreen b → GoodAndGreen left
     step-green g =
-        either-way (checksOf b call) b (afterCall b call) (serialOf b call) (lent call) after r left
-        (refusing b call) (kept-called b (g .whole .sized) call r left after k) GoodAndGreen
+        kept b call r left after k GoodAndGreen
         (λ none.
         let fits = after-fits b (g .whole) call none in
         record {

@@ -9,29 +9,33 @@ use Rattle.requests.specs.declared.AskAct.{AskAct}
 use Rattle.requests.specs.declared.AskAdmit.{AskAdmit}
 use Rattle.requests.specs.declared.AskDo.{AskDo}
 use Rattle.requests.specs.declared.AskWithdraw.{AskWithdraw}
+use Rattle.save.specs.Saves.{Saves}
 use Rattle.verdict.specs.Checked.{Checked}
 use Rattle.admit.specs.Admits.{Admits}
 use Rattle.act.specs.ActsNow.{ActsNow}
 use Rattle.do_duty.specs.Does.{Does}
 use Rattle.withdraw.specs.Withdraws.{Withdraws}
 
--- a call: the list lent to it, and what it asks
+-- a call: the list or buffer lent to it, and what it asks
 pub data Call : Type 0 where
   admit : List ℕ → AskAdmit → Call
   act : List ℕ → AskAct → Call
   doDuty : AskDo → Call
   withdraw : List ℕ → AskWithdraw → Call
   check : List ℕ → Call
+  save : List ℕ → Call
 
--- The answer, the board value left and the lent list left keep the promise of the call on the board value b.
+-- The answer, the board value left and the lent list or buffer left keep the promise of the call on the board
+-- value b.
 abbrev pub Keeps : Board → Call → Answer → Board → List ℕ → Type 0
 Keeps b (admit before q) r left after = Admits b before q r left after
 Keeps b (act before q) r left after = ActsNow b before q r left after
 Keeps b (doDuty q) r left after = Does b q r left × (after ≡ [])
 Keeps b (withdraw before q) r left after = Withdraws b before q r left after
 Keeps b (check before) r left after = Checked b before after r × (left ≡ b)
+Keeps b (save before) r left after = Saves b before after r × (left ≡ b)
 
--- a call that was made, with its answer and the lent list after it
+-- a call that was made, with its answer and the lent list or buffer after it
 pub record Made : Type 0 where
   pub call : Call
   pub answer : Answer

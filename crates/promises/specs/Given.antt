@@ -9,7 +9,7 @@ use Rattle.board.specs.declared.Board.{Board}
 use Rattle.board.specs.declared.Duty.{Duty}
 use Rattle.board.specs.Numbers as answer
 use Rattle.board.specs.View.{view}
-use Rattle.promises.specs.Calls.{Call, admit, act, doDuty, withdraw, check, Made}
+use Rattle.promises.specs.Calls.{Call, admit, act, doDuty, withdraw, check, save, Made}
 
 -- the serial that this call gave, if it is an accepted admission
 abbrev pub given : Call → Answer → List ℕ
@@ -18,6 +18,7 @@ given (act before q) r = []
 given (doDuty q) r = []
 given (withdraw before q) r = []
 given (check before) r = []
+given (save before) r = []
 
 -- the serials that these calls gave, in turn
 abbrev pub allGiven : List Made → List ℕ

@@ -4,3 +4,4 @@ pub mod Calls
 pub mod InTurn
 pub mod Given
 pub mod Settled
+pub mod Saved

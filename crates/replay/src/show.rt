@@ -1,14 +1,16 @@
 // The lines: an opening, an answer, and at the end the board and whether the lent lists were kept.
-use crate::lent::LENT;
+use crate::lent::BUFFER;
 use crate::lent::Lists;
 use crate::text::ROOM;
 use crate::text::put;
+use crate::text::put_hex;
 use crate::text::put_next;
 use crate::text::put_number;
 use board::Answer;
 use board::Board;
 use board::Duty;
 use board::What;
+use session::LENT;
 ghost use Prim.Native.Nat.{_≤_};
 
 // The lesser of two.
@@ -50,18 +52,52 @@ pub(crate) fn put_opening(
     put_list(out, c, list, answer.length)
 }
 
-// The line of an answer: its number, its serial, and the failing order.
+// Put the number, the serial and the length of an answer.
+fn put_numbers(out: &mut [u8; ROOM], at: usize, answer: Answer) -> usize {
+    let serial = answer.serial;
+    let a = put_number(out, at, answer.number as u64);
+    let b = put_next(out, a, serial.0 as u64);
+    put_next(out, b, answer.length as u64)
+}
+
+// The line of an answer: its numbers, and the failing order.
 pub(crate) fn put_answer(
     out: &mut [u8; ROOM],
     at: usize,
     answer: Answer,
     list: &[u32; LENT],
 ) -> usize {
-    let serial = answer.serial;
-    let a = put_number(out, at, answer.number as u64);
-    let b = put_next(out, a, serial.0 as u64);
-    let c = put_next(out, b, answer.length as u64);
-    put_list(out, c, list, answer.length)
+    let here = put_numbers(out, at, answer);
+    put_list(out, here, list, answer.length)
+}
+
+// Put the first n bytes in hexadecimal.
+fn put_bytes(out: &mut [u8; ROOM], at: usize, bytes: &[u8], n: usize) -> usize {
+    let count = lesser(n, bytes.len());
+    let mut here = at;
+    let mut i: usize = 0;
+    while i < count {
+        let byte = bytes[i];
+        here = put_hex(out, here, byte);
+        i += 1;
+    }
+    here
+}
+
+// The line of a save: its numbers, and after a space the bytes that were written, where there are any.
+pub(crate) fn put_save(
+    out: &mut [u8; ROOM],
+    at: usize,
+    answer: Answer,
+    buffer: &[u8; BUFFER],
+) -> usize {
+    let a = put_numbers(out, at, answer);
+    if answer.length == 0 {
+        return put(out, a, b"\n");
+    }
+    let b = put(out, a, b" ");
+    let c = put_bytes(out, b, buffer, answer.length);
+    put(out, c, b"\n")
 }
 
 // ---- the board
@@ -155,9 +191,9 @@ pub(crate) fn put_board(out: &mut [u8; ROOM], at: usize, board: Board) -> usize 
     put_duties(out, b, board)
 }
 
-// ---- the lent lists
+// ---- the lent lists and buffers
 
-// The line that tells whether each entry that a call may not write was kept in every call.
+// The line that tells whether each entry and byte that a call may not write was kept in every call.
 pub(crate) fn put_lists(out: &mut [u8; ROOM], at: usize, lists: Lists) -> usize {
     match lists {
         Lists::Kept => put(out, at, b"list ok\n"),

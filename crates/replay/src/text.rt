@@ -42,6 +42,18 @@ pub(crate) fn put_next(out: &mut [u8; ROOM], at: usize, number: u64) -> usize {
     put_number(out, here, number)
 }
 
+// The lower-case hexadecimal digit of the last four bits.
+fn digit(bits: u8) -> u8 {
+    let d = bits % 16;
+    if d < 10 { 48 + d } else { 87 + d }
+}
+
+// Put the two hexadecimal digits of a byte.
+pub(crate) fn put_hex(out: &mut [u8; ROOM], at: usize, byte: u8) -> usize {
+    let here = put_byte(out, at, digit(byte / 16));
+    put_byte(out, here, digit(byte))
+}
+
 // Write out what was gathered up to a place.
 pub(crate) fn write_out(out: &[u8; ROOM], at: usize) {
     let bytes: &[u8] = out;

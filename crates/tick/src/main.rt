@@ -2,6 +2,6 @@
 // `yes` and the number of duties; `no`, the length of a failing order and its serials; or `refused` and the
 // number of the answer.
 fn main() {
-    let mut room = [0u8; file::LONGEST + 1];
+    let mut room = [0u8; layout::LONGEST + 1];
     standard_input::print_line(&mut room);
 }

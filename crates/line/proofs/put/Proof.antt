@@ -6,8 +6,8 @@ use native.Mathlib.Omega.{arith}
 use lib.ListN.{length, take, getD}
 use lib.Seq.{take-suc, take-all}
 use borrow.Author.Needs.{needs}
-use Rattle.line.specs.Line.{Put}
-use Rattle.line.proofs.PutLaws.{put-nothing, put-one, put-then}
+use Rattle.put.specs.Put.{Put}
+use Rattle.put.proofs.PutLaws.{put-nothing, put-one, put-then}
 use Rattle.line.proofs.put.Statement.{statement}
 use Rattle.line.proofs.put.Tie as tie
 

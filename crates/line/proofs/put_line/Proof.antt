@@ -4,7 +4,7 @@ use mathlib.Core.List.{[], _∷_, append-nil}
 use native.Mathlib.Omega.{arith}
 use borrow.Author.Needs.{needs}
 use Rattle.line.specs.Line.{decimal}
-use Rattle.line.proofs.PutLaws.{put-then}
+use Rattle.put.proofs.PutLaws.{put-then}
 use Rattle.line.proofs.NumberLaws.{numbers-length, first-numbers-length}
 use Rattle.line.proofs.put_line.Statement.{statement}
 use Rattle.line.proofs.put_line.Tie as tie

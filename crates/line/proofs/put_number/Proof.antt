@@ -1,7 +1,7 @@
 -- The digits are spelt in a text of their own, then a space is put, and the digits after it.
 use mathlib.Core.List.{append-nil}
 use borrow.Author.Needs.{needs}
-use Rattle.line.proofs.PutLaws.{put-then}
+use Rattle.put.proofs.PutLaws.{put-then}
 use Rattle.line.proofs.put_number.Statement.{statement}
 use Rattle.line.proofs.put_number.Tie as tie
 

@@ -4,8 +4,9 @@ use Prim.Native.Nat.{_-_, _≤_, _<_}
 use native.Mathlib.Omega.{arith}
 use lib.ListN.{length, take}
 use borrow.Author.Needs.{needs}
-use Rattle.line.specs.Line.{numbers, Put}
-use Rattle.line.proofs.PutLaws.{put-nothing, put-then}
+use Rattle.put.specs.Put.{Put}
+use Rattle.line.specs.Line.{numbers}
+use Rattle.put.proofs.PutLaws.{put-nothing, put-then}
 use Rattle.line.proofs.NumberLaws.{first-numbers-length, numbers-next}
 use Rattle.line.proofs.put_numbers.Statement.{statement}
 use Rattle.line.proofs.put_numbers.Tie as tie

@@ -3,7 +3,7 @@ use Prim.Native.Nat.{_+_}
 use native.Mathlib.Omega.{arith}
 use lib.ListN.{length-take}
 use borrow.Author.Needs.{needs}
-use Rattle.file.specs.Layout.{longest}
+use Rattle.layout.specs.Layout.{longest}
 use Rattle.printed.proofs.cut_length.Statement.{statement}
 use Rattle.printed.proofs.cut_length.Tie as tie
 

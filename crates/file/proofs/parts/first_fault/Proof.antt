@@ -5,7 +5,7 @@ use mathlib.Core.List.{List}
 use Prim.Native.Nat.{ℕ, _≤_, _<_, _-_}
 use native.Mathlib.Omega.{arith}
 use borrow.Author.Needs.{needs}
-use Rattle.file.specs.Layout.{countsOf}
+use Rattle.layout.specs.Layout.{countsOf}
 use Rattle.file.specs.Parts.{sizeOf, faultAt}
 use Rattle.file.proofs.FirstFault.{firstIn, partCount, partFault, none-next, first-is, first-by-parts}
 use Rattle.file.proofs.parts.first_fault.Statement.{statement}

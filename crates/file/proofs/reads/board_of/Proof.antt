@@ -7,7 +7,7 @@ use Rattle.board.specs.declared.Counts.{Counts}
 use Rattle.board.specs.Filler.{noPermission, noRule, noDuty}
 use Rattle.board.specs.Limits.{maxUsers, maxPermissions, maxRules, maxDuties}
 use Rattle.board.proofs.InRange.{CountsInRange, counts→range}
-use Rattle.file.specs.Layout.{nextOf}
+use Rattle.layout.specs.Layout.{nextOf}
 use Rattle.file.specs.Records.{holdingAt, permissionAt, ruleAt, dutyAt}
 use Rattle.file.specs.Reads.{filled, boardOf}
 use Rattle.file.proofs.reads.board_of.Statement.{statement}

@@ -1,0 +1,113 @@
+-- The call that a record asks for keeps its promise, and a record asks for one call alone.
+use mathlib.Core.Path.{_≡_, sym, subst, _∙_}
+use mathlib.Core.List.{List}
+use Prim.Native.Nat.{ℕ}
+use native.Mathlib.Omega.{arith}
+use Rattle.board.specs.declared.Answer.{Answer}
+use Rattle.board.specs.declared.Board.{Board}
+use Rattle.board.specs.Numbers as answer
+use Rattle.verdict.specs.Checked.{Checked}
+use Rattle.requests.specs.declared.AskAct.{AskAct}
+use Rattle.requests.specs.declared.AskAdmit.{AskAdmit}
+use Rattle.requests.specs.declared.AskDo.{AskDo}
+use Rattle.requests.specs.declared.AskWithdraw.{AskWithdraw}
+use Rattle.outcomes.specs.declared.Outcome.{Outcome}
+use Rattle.outcomes.specs.Outcomes.{Flagged, refusedWith}
+use Rattle.admit.specs.Admits.{Admits}
+use Rattle.act.specs.ActsNow.{ActsNow}
+use Rattle.do_duty.specs.Does.{Does}
+use Rattle.withdraw.specs.Withdraws.{Withdraws}
+use Rattle.session.specs.declared.Record.{Record}
+use Rattle.session.specs.Sessions.{askAdmit, askAct, askDo, askWithdraw, outcomeOf, Makes}
+
+module _ (b : Board) (r : Record) (before after : List ℕ) (o : Outcome) where
+  pub made-admit :
+      (q : AskAdmit) → r .kind ≡ 0 → q ≡ askAdmit r
+      → Admits b before q (o .answer) (o .board) after × Flagged o → Makes b r before o after
+  made-admit q is asks kept =
+      record {
+        admits = λ _.
+            subst (λ (q : AskAdmit). Admits b before q (o .answer) (o .board) after × Flagged o) asks kept;
+        acts = λ e. absurd (omega arith);
+        does = λ e. absurd (omega arith);
+        withdraws = λ e. absurd (omega arith);
+        checks = λ e. absurd (omega arith);
+        none = λ e. absurd (omega arith);
+      }
+
+  pub made-act :
+      (q : AskAct) → r .kind ≡ 1 → q ≡ askAct r
+      → ActsNow b before q (o .answer) (o .board) after × Flagged o → Makes b r before o after
+  made-act q is asks kept =
+      record {
+        admits = λ e. absurd (omega arith);
+        acts = λ _.
+            subst (λ (q : AskAct). ActsNow b before q (o .answer) (o .board) after × Flagged o) asks kept;
+        does = λ e. absurd (omega arith);
+        withdraws = λ e. absurd (omega arith);
+        checks = λ e. absurd (omega arith);
+        none = λ e. absurd (omega arith);
+      }
+
+  pub made-do :
+      (q : AskDo) → r .kind ≡ 2 → q ≡ askDo r → Does b q (o .answer) (o .board) × Flagged o
+      → after ≡ before → Makes b r before o after
+  made-do q is asks kept same =
+      record {
+        admits = λ e. absurd (omega arith);
+        acts = λ e. absurd (omega arith);
+        does = λ _. (
+          subst (λ (q : AskDo). Does b q (o .answer) (o .board) × Flagged o) asks kept,
+          same,
+        );
+        withdraws = λ e. absurd (omega arith);
+        checks = λ e. absurd (omega arith);
+        none = λ e. absurd (omega arith);
+      }
+
+  pub made-withdraw :
+      (q : AskWithdraw) → r .kind ≡ 3 → q ≡ askWithdraw r
+      → Withdraws b before q (o .answer) (o .board) after × Flagged o → Makes b r before o after
+  made-withdraw q is asks kept =
+      record {
+        admits = λ e. absurd (omega arith);
+        acts = λ e. absurd (omega arith);
+        does = λ e. absurd (omega arith);
+        withdraws = λ _.
+            subst
+            (λ (q : AskWithdraw). Withdraws b before q (o .answer) (o .board) after × Flagged o)
+            asks
+            kept;
+        checks = λ e. absurd (omega arith);
+        none = λ e. absurd (omega arith);
+      }
+
+  pub made-check :
+      (answer : Answer) → r .kind ≡ 4 → o ≡ outcomeOf b answer → Checked b before after answer
+      → Makes b r before o after
+  made-check answer is gives kept =
+      let same : o .answer ≡ answer = λ i. gives i .answer in
+      record {
+        admits = λ e. absurd (omega arith);
+        acts = λ e. absurd (omega arith);
+        does = λ e. absurd (omega arith);
+        withdraws = λ e. absurd (omega arith);
+        checks = λ _. (
+          subst (λ (a : Answer). Checked b before after a) (sym same) kept,
+          gives ∙ (λ i. outcomeOf b (sym same i)),
+        );
+        none = λ e. absurd (omega arith);
+      }
+
+  pub made-none :
+      (r .kind ≡ 0 → ⊥) → (r .kind ≡ 1 → ⊥) → (r .kind ≡ 2 → ⊥) → (r .kind ≡ 3 → ⊥)
+      → (r .kind ≡ 4 → ⊥) → o ≡ refusedWith b answer.done → after ≡ before → Makes b r before o after
+  made-none no-admit no-act no-do no-withdraw no-check gives same =
+      record {
+        admits = λ e. absurd (no-admit e);
+        acts = λ e. absurd (no-act e);
+        does = λ e. absurd (no-do e);
+        withdraws = λ e. absurd (no-withdraw e);
+        checks = λ e. absurd (no-check e);
+        none = λ _. (gives, same);
+      }
