@@ -320,7 +320,7 @@ def admit(board, q):
     number = first_of((
         (19, lambda: not is_good(board)), (9, lambda: q.lent < DUTIES), (10, lambda: q.clock < board.clock),
         (11, lambda: not request_fits(board, q.doer, q.action, q.first, q.second)),
-        (7, lambda: q.start > q.end), (16, lambda: board.open == DUTIES),
+        (7, lambda: q.start > q.end), (21, lambda: q.end < q.clock), (16, lambda: board.open == DUTIES),
         (17, lambda: board.next == LARGEST)))
     if number:
         return refused(board, number)

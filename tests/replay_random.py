@@ -105,7 +105,7 @@ def call(draw, base, board):
     """A call that often fits the board, and sometimes is wrong in a field."""
     kind = draw.choice((0,) * 8 + (1,) * 5 + (2,) * 6 + (3,) * 2 + (4,))
     action, first, second = doing(draw, board.users or 1, board.roles or 1)
-    start, end = window(draw, base)
+    start, end = window(draw, draw.choice((base, max(base, board.clock - 2))))
     d = draw.choice(board.pool() or [model.NO_DUTY])
     clock = board.clock + draw.choice((0, 0, 0, 0, 1, 1, 3))
     if kind == 2 and draw.random() < 0.8:
@@ -148,7 +148,8 @@ def session(draw):
     board, records = model.opened(file, 128)[2], []
     if draw.random() < 0.03:  # the pool is filled to its limit: one minute each, a grant or revoke by user 0
         action = draw.choice((0, 1))
-        records += [packed(lent=128, action=action, start=base, end=base, clock=board.clock)] * 131
+        now = board.clock
+        records += [packed(lent=128, action=action, start=now, end=now, clock=now)] * 131
         for record in records:
             board = after(board, record)
     for _ in range(draw.choice((5, 20, 40))):

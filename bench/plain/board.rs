@@ -219,6 +219,7 @@ pub mod number {
     pub const SPENT: u8 = 17;
     pub const LONG: u8 = 18;
     pub const BROKEN: u8 = 19;
+    pub const OVER: u8 = 21;
 }
 
 /// What a call answers: its number, the serial of a duty that was admitted (else 0), and the length of the

@@ -75,7 +75,7 @@ pub fn check(b: &Board, list: &mut [u32]) -> Answer {
     judge(b, list).map_or(Answer::plain(number::DONE), Answer::red)
 }
 
-/// Admit: 19, 9, 10, 11, 7, 16, 17, 8.
+/// Admit: 19, 9, 10, 11, 7, 21, 16, 17, 8.
 pub fn admit(b: &mut Board, list: &mut [u32], q: &AskAdmit) -> Answer {
     if let Some(number) = refused_first(b, list, q.clock) {
         return Answer::plain(number);
@@ -85,6 +85,9 @@ pub fn admit(b: &mut Board, list: &mut [u32], q: &AskAdmit) -> Answer {
     }
     if q.start > q.end {
         return Answer::plain(number::WINDOW);
+    }
+    if q.end < q.clock {
+        return Answer::plain(number::OVER);
     }
     let count = usize::from(b.counts.duties);
     if count == DUTIES {

@@ -114,10 +114,10 @@ module _ (b : Board) (size : Sized b) (before : List ℕ) (q : AskAdmit) (number
     fits-now = view-fits b size whole
 
     pub few : length (view b .duties) < maxDuties
-    few = let full = none .1 .1 .1 .1 .1 .0 in omega (arith, fits-now .duties)
+    few = let full = none .1 .1 .1 .1 .1 .1 .0 in omega (arith, fits-now .duties)
 
     pub spare : b .next .0 < maxNext
-    spare = let spent = none .1 .1 .1 .1 .1 .1 .0 in omega (arith, fits-now .most)
+    spare = let spent = none .1 .1 .1 .1 .1 .1 .1 .0 in omega (arith, fits-now .most)
 
     new-fits : NewFits (view b) (asked q)
     new-fits =

@@ -1,6 +1,6 @@
 -- What admit promises, for every board value, lent list and request.
 use mathlib.Core.Path.{_≡_}
-use mathlib.Core.Bool.{false}
+use mathlib.Core.Bool.{true, false}
 use mathlib.Core.List.{List, [], _∷_, _++_}
 use Prim.Native.Nat.{ℕ, _<_}
 use lib.ListN.{length}
@@ -14,7 +14,7 @@ use Rattle.board.specs.Green.{Red}
 use Rattle.board.specs.Limits.{maxDuties, maxNext}
 use Rattle.board.specs.Numbers as answer
 use Rattle.board.specs.View.{View, view}
-use Rattle.board.specs.Windows.{windowFits}
+use Rattle.board.specs.Windows.{windowFits, isOver}
 use Rattle.requests.specs.declared.AskAdmit.{AskAdmit}
 use Rattle.requests.specs.Requests.{doingFits, asked}
 
@@ -22,7 +22,7 @@ use Rattle.requests.specs.Requests.{doingFits, asked}
 abbrev pub afterAdmit : Board → AskAdmit → View
 afterAdmit b q = admitted (view b) (q .clock) (asked q ∷ [])
 
--- 19, 9, 10, 11, 7, 16, 17
+-- 19, 9, 10, 11, 7, 21, 16, 17
 abbrev pub admitEarlier : Board → ℕ → AskAdmit → List Check
 admitEarlier b room q =
     check answer.broken (good b ≡ false)
@@ -31,11 +31,12 @@ admitEarlier b room q =
     ∷ check answer.request
     (doingFits (b .counts .users) (b .counts .roles) (q .doer) (q .action) (q .first) (q .second) ≡ false)
     ∷ check answer.window (windowFits (withSerial (b .next .0) (asked q)) ≡ false)
+    ∷ check answer.over (isOver (q .clock) (withSerial (b .next .0) (asked q)) ≡ true)
     ∷ check answer.full (length (view b .duties) ≡ maxDuties)
     ∷ check answer.spent (b .next .0 ≡ maxNext)
     ∷ []
 
--- Admit: 19, 9, 10, 11, 7, 16, 17, 8.
+-- Admit: 19, 9, 10, 11, 7, 21, 16, 17, 8.
 abbrev pub admitChecks : Board → ℕ → AskAdmit → List Check
 admitChecks b room q = admitEarlier b room q ++ (check answer.red (Red (afterAdmit b q)) ∷ [])
 

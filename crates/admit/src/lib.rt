@@ -34,7 +34,7 @@ fn duty_asked(q: AskAdmit, serial: Serial) -> Duty
     }
 }
 
-// 19, 9, 10, 11, 7, 16, 17, or 0 where none of these applies.
+// 19, 9, 10, 11, 7, 21, 16, 17, or 0 where none of these applies.
 fn refusal(b: Board, room: usize, q: AskAdmit) -> u8
     ensures { λ r. ⌜ Answers (admitEarlier b room q) r ⌝ }
 {
@@ -56,7 +56,12 @@ fn refusal(b: Board, room: usize, q: AskAdmit) -> u8
     if !windows::window_fits(d) {
         return Answer::WINDOW;
     }
-    if counts.duties as usize == Board::DUTIES {
+    let over = windows::is_over(q.clock, d);
+    let full = counts.duties as usize == Board::DUTIES;
+    if over {
+        return Answer::OVER;
+    }
+    if full {
         return Answer::FULL;
     }
     if next.0 == Board::NEXT {
@@ -83,7 +88,7 @@ fn with_duty(b: Board, q: AskAdmit) -> Board
     after
 }
 
-// Admit: 19, 9, 10, 11, 7, 16, 17, 8.
+// Admit: 19, 9, 10, 11, 7, 21, 16, 17, 8.
 pub fn admit(b: Board, list: &mut [u32], q: AskAdmit) -> Outcome
     ensures { λ r. ⌜ Admits b (now (list .entry)) q (r .answer) (r .board) (now (list .exit)) × Flagged r ⌝ }
 {

@@ -84,3 +84,7 @@ broken = 19
 -- lent buffer shorter than the file
 abbrev pub room : ℕ
 room = 20
+
+-- window over: its end is below the call's clock
+abbrev pub over : ℕ
+over = 21

@@ -211,6 +211,8 @@ impl Answer {
 
     pub const ROOM: u8 = 20;
 
+    pub const OVER: u8 = 21;
+
     // The answer with this number, no serial and no failing order.
     pub fn plain(number: u8) -> Self
         ensures { λ r. ⌜ r ≡ plainAnswer number ⌝ }

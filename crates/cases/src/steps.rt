@@ -47,7 +47,7 @@ pub(crate) fn case_of(number: u8) -> Case {
         _ => Case {
             number,
             file: 1,
-            steps: 1,
+            steps: 2,
         },
     }
 }
@@ -122,11 +122,19 @@ fn step_of_13(k: u8) -> Step {
     }
 }
 
-// The k-th step of a case, from 1 on. Case 14 has one: case 1, admit a grant.
+// Case 1: admit a grant whose window is over, and one whose window ends at the clock.
+fn step_of_14(k: u8) -> Step {
+    match k {
+        1 => stepping(admitting(1, 3, 10), plainly(Answer::OVER, 0, 0)),
+        _ => stepping(admitting(1, 10, 10), admitted(1, 0, 1)),
+    }
+}
+
+// The k-th step of a case, from 1 on.
 pub(crate) fn step_of(number: u8, k: u8) -> Step {
     match number {
         12 => step_of_12(k),
         13 => step_of_13(k),
-        _ => stepping(admitting(1, 3, 10), admitted(1, 0, 1)),
+        _ => step_of_14(k),
     }
 }

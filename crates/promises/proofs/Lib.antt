@@ -3,6 +3,7 @@ pub mod Kept
 pub mod AfterCalls
 pub mod StaysGreen
 pub mod CarriedOut
+pub mod NoneOver
 pub mod Denied
 pub mod Serials
 pub mod Settled

@@ -2,7 +2,7 @@
 use mathlib.Core.Path.{_≡_}
 use mathlib.Core.Bool.{false}
 use mathlib.Core.List.{List, [], _∷_}
-use Prim.Native.Nat.{max}
+use Prim.Native.Nat.{ℕ, max}
 use Rattle.orders.specs.Lists.{Mem}
 use Rattle.board.specs.declared.Answer.{Answer}
 use Rattle.board.specs.declared.Board.{Board}
@@ -14,9 +14,13 @@ use Rattle.board.specs.Windows.{isOver}
 use Rattle.requests.specs.declared.AskDo.{AskDo}
 use Rattle.do_duty.specs.Does.{Does}
 
+-- no open window is over at this clock
+abbrev pub NoneOverAt : ℕ → Board → Type 0
+NoneOverAt clock b = (d : Duty) → Mem d (view b .duties) → isOver clock d ≡ false
+
 -- no open window is over
 abbrev pub NoneOver : Board → Type 0
-NoneOver b = (d : Duty) → Mem d (view b .duties) → isOver (b .clock) d ≡ false
+NoneOver b = NoneOverAt (b .clock) b
 
 -- this duty is to be done at the earliest minute that its window and the clock permit
 abbrev pub earliestDo : Board → Duty → AskDo

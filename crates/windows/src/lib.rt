@@ -1,7 +1,7 @@
 // Windows and the clock. Windows include both ends.
 use board::Duty;
 ghost use mathlib.Core.Path.{_≡_};
-ghost use Rattle.board.specs.Windows.{windowFits, whollyBefore, inWindow};
+ghost use Rattle.board.specs.Windows.{windowFits, whollyBefore, inWindow, isOver};
 
 // Whether a window does not start after its end.
 pub fn window_fits(d: Duty) -> bool
@@ -22,4 +22,11 @@ pub fn in_window(clock: u32, d: Duty) -> bool
     ensures { λ r. ⌜ r ≡ inWindow clock d ⌝ }
 {
     (d.start <= clock) & (clock <= d.end)
+}
+
+// Whether a duty's window is over: its end is below the clock.
+pub fn is_over(clock: u32, d: Duty) -> bool
+    ensures { λ r. ⌜ r ≡ isOver clock d ⌝ }
+{
+    d.end < clock
 }

@@ -9,12 +9,13 @@ use native.Mathlib.Omega.{arith}
 use lib.ListN.{length, drop}
 use lib.Seq.{length-take-le}
 use borrow.Author.Needs.{needs}
+use borrow.Author.Tests.{eqb-true, eqb-false}
 use Rattle.orders.proofs.Tests.{clash, not-true, not-false}
 use Rattle.board.specs.After.{withSerial}
 use Rattle.board.specs.Answers.{Check, Answers}
 use Rattle.board.specs.Good.{good}
 use Rattle.board.specs.View.{view}
-use Rattle.board.specs.Windows.{windowFits}
+use Rattle.board.specs.Windows.{windowFits, isOver}
 use Rattle.board.proofs.GoodLaws.{good→counts}
 use Rattle.board.proofs.Sized.{sized}
 use Rattle.requests.specs.Requests.{asked}
@@ -76,7 +77,25 @@ past5 c n a =
     past4 (c .before .before .before .before) n (inr (λ e. clash fits e, a))
 
 abbrev start6 : tie.Else6 → tie.Start
-start6 c = start5 (c .before .before)
+start6 c = start5 (c .before .before .before)
+
+over-is :
+    (c : tie.After-is-over)
+    → let s = start5 (c .before) in
+    c .is-over .result ≡ isOver (s .args .q .clock) (withSerial (s .args .b .next .0) (asked (s .args .q)))
+over-is c =
+    let clock = start5 (c .before) .args .q .clock in
+    let made = c .before .before .before .duty-asked in
+    let told : c .is-over .result ≡ isOver clock (made .result) = c .is-over .ensures in
+    told ∙ ap (isOver clock) (made .ensures)
+
+past6 : (c : tie.Else6) → Past (start6 c) 6
+past6 c n a =
+    let open-still = sym (over-is (c .before .before)) ∙ c .if6 .left in
+    past5 (c .before .before .before) n (inr (λ e. clash e open-still, a))
+
+abbrev start7 : tie.Else7 → tie.Start
+start7 c = start6 (c .before)
 
 -- the count is the number of duties
 counted :
@@ -89,22 +108,23 @@ counted c =
     let size = sized b _ (s .good .0) in
     length-take-le (b .counts .duties) (b .duties) (rw (size .duties) (good→counts b (whole c) .duties))
 
-abbrev else1 : tie.Else5 → tie.Else1
+abbrev else1 : tie.Else6 → tie.Else1
 else1 c =
-    let four = c .before .before .before .before in
+    let five = c .before .before .before in
+    let four = five .before .before .before .before in
     let three = four .before .before .before in
     let two = three .before .before .before in two .before
 
-past6 : (c : tie.Else6) → Past (start6 c) 6
-past6 c n a =
-    let five = c .before .before in
-    past5 five n (inr (λ e. c .if6 .left (sym (counted (else1 five)) ∙ e), a))
-
-abbrev start7 : tie.Else7 → tie.Start
-start7 c = start6 (c .before .before)
-
 past7 : (c : tie.Else7) → Past (start7 c) 7
-past7 c n a = past6 (c .before .before) n (inr (c .if7 .left, a))
+past7 c n a =
+    let six = c .before in
+    past6 six n (inr (λ e. eqb-false _ _ (c .if7 .left) (sym (counted (else1 six)) ∙ e), a))
+
+abbrev start8 : tie.Else8 → tie.Start
+start8 c = start7 (c .before .before)
+
+past8 : (c : tie.Else8) → Past (start8 c) 8
+past8 c n a = past7 (c .before .before) n (inr (c .if8 .left, a))
 
 -- ---- the needs
 
@@ -141,19 +161,27 @@ returns-5 c =
     let fails = sym (window-is (c .before)) ∙ not-true (c .before .window-fits .result) (c .if5 .taken) in
     past4 (c .before .before .before .before) _ (inl (fails, refl))
 
-cast-if6 : tie.Need-cast-if6
-cast-if6 c = search needs
+is-over-requires : tie.Need-is-over-requires
+is-over-requires c κs = search needs
+
+cast-full : tie.Need-cast-full
+cast-full c = search needs
 
 returns-6 : tie.Need-returns-6
 returns-6 c =
-    let five = c .before .before in
-    past5 five _ (inl (counted (else1 five) ∙ c .if6 .taken, refl))
+    let over = sym (over-is (c .before .before)) ∙ c .if6 .taken in
+    past5 (c .before .before .before) _ (inl (over, refl))
 
 returns-7 : tie.Need-returns-7
-returns-7 c = past6 (c .before .before) _ (inl (c .if7 .taken, refl))
+returns-7 c =
+    let six = c .before in
+    past6 six _ (inl (counted (else1 six) ∙ eqb-true _ _ (c .if7 .taken), refl))
 
 returns-8 : tie.Need-returns-8
-returns-8 c = past7 c _ refl
+returns-8 c = past7 (c .before .before) _ (inl (c .if8 .taken, refl))
+
+returns-9 : tie.Need-returns-9
+returns-9 c = past8 c _ refl
 
 pub refusal-spec : {M : Type 1} → statement M
 refusal-spec =
@@ -168,7 +196,9 @@ refusal-spec =
     duty-asked-requires
     window-fits-requires
     returns-5
-    cast-if6
+    is-over-requires
+    cast-full
     returns-6
     returns-7
-    returns-8)
+    returns-8
+    returns-9)
