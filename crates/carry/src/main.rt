@@ -68,6 +68,10 @@ fn write_file(b: Board) {
     }
     let mut buffer = [0u8; layout::LONGEST];
     let answer = save::save(b, &mut buffer);
+    if answer.number != Answer::DONE {
+        refuse(answer.number);
+        return;
+    }
     write_out(&buffer, answer.length);
 }
 

@@ -23,7 +23,7 @@ use Rattle.file.specs.Reads.{recordChecks}
 use Rattle.file.specs.Records.{holdingAt, permissionAt, ruleAt, ruleSpare, dutyAt}
 use Rattle.file.specs.Records.{secondFitsAt, isAbove}
 use Rattle.file.specs.Records.{holdingFault, permissionFault, ruleFault, dutyFault}
-use Rattle.file.specs.Records.{faultOf, faultNumbers, faults, orElse, firstOf, firstFault}
+use Rattle.file.specs.Records.{faultOf, faultNumbers, faults, orElse, firstOne, firstFault}
 
 -- ---- the first fault among numbered ones
 
@@ -53,12 +53,12 @@ or-else-keeps : (P : ℕ → Type 0) (a b : ℕ) → P a → P b → P (orElse a
 or-else-keeps P zero b p q = q
 or-else-keeps P (suc a) b p q = p
 
-first-append : (a b : List ℕ) → firstOf (a ++ b) ≡ orElse (firstOf a) (firstOf b)
+first-append : (a b : List ℕ) → firstOne (a ++ b) ≡ orElse (firstOne a) (firstOne b)
 first-append [] b = refl
-first-append (x ∷ a) b = rw (first-append a b) (sym (or-else-assoc x (firstOf a) (firstOf b)))
+first-append (x ∷ a) b = rw (first-append a b) (sym (or-else-assoc x (firstOne a) (firstOne b)))
 
 module _ (fault : ℕ → ℕ) where
-  first-below : (n : ℕ) → firstOf (map fault (below n)) ≡ firstIn fault n
+  first-below : (n : ℕ) → firstOne (map fault (below n)) ≡ firstIn fault n
   first-below zero = refl
   first-below (suc n) =
       rw (

@@ -110,9 +110,9 @@ orElse zero rest = rest
 orElse (suc fault) rest = suc fault
 
 -- the first that is one; 0 where none is
-abbrev pub firstOf : List ℕ → ℕ
-firstOf [] = answer.done
-firstOf (fault ∷ rest) = orElse fault (firstOf rest)
+abbrev pub firstOne : List ℕ → ℕ
+firstOne [] = answer.done
+firstOne (fault ∷ rest) = orElse fault (firstOne rest)
 
 abbrev pub firstFault : List ℕ → ℕ
-firstFault s = firstOf (faults s)
+firstFault s = firstOne (faults s)

@@ -10,12 +10,14 @@ use lib.ListN.{length}
 use Rattle.orders.specs.Lists.{Mem}
 use Rattle.orders.specs.Orders.{Order}
 use Rattle.orders.proofs.Lists.{at-cons}
-use Rattle.orders.proofs.Tests.{is-false}
+use Rattle.orders.proofs.Tests.{is-true, is-false}
 use Rattle.board.specs.declared.Answer.{Answer}
 use Rattle.board.specs.declared.Board.{Board}
 use Rattle.board.specs.declared.Duty.{Duty}
 use Rattle.board.specs.After.{withSerial}
 use Rattle.board.specs.Answers.{NoneApplies}
+use Rattle.board.specs.Filler.{Sized}
+use Rattle.board.specs.Good.{good}
 use Rattle.board.specs.Green.{worldOf}
 use Rattle.board.specs.Numbers as answer
 use Rattle.board.specs.View.{View, view}
@@ -52,8 +54,9 @@ module _
         (List·Memᴰ·append-cases (view b .duties) m)
 
     -- From a board with no open window over at the call's clock, an accepted admission leaves none over.
-    pub admit-none-over : Whole b → NoneOver left
-    admit-none-over w =
+    pub admit-none-over : Sized b → NoneOver left
+    admit-none-over size =
+        let w : Whole b = record { sized = size; is-good = is-true (good b) (none .0) } in
         let says : view left ≡ afterAdmit b q =
         ap view (k .accepted accepted .0)
         ∙ view-saying (afterAdmit b q) (after-fits b w (admit before q) none) in
@@ -66,7 +69,7 @@ module _
     pub admit-open-still : GoodAndGreen b → GoodAndGreen left × NoneOver left
     admit-open-still g = (
       step-green b (admit before q) r left after k g,
-      admit-none-over (g .whole),
+      admit-none-over (g .whole .sized),
     )
 
     -- and in each allowed order of the board left all duties are done in turn.

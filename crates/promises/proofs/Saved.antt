@@ -1,20 +1,23 @@
 -- Opening what was saved gives the board back, and saving what was opened gives the bytes back. The idea:
 -- what was saved reads back as the board (crate read_back), so open judges that very board.
-use mathlib.Core.Path.{_≡_, sym, _∙_, ap, subst}
+use mathlib.Core.Path.{_≡_, refl, sym, _∙_, ap, subst}
+use mathlib.Core.Bool.{true}
 use mathlib.Core.List.{List, _++_}
 use Prim.Native.Nat.{ℕ, _≤_}
 use native.Mathlib.Omega.{arith}
 use lib.ListN.{length, take, drop}
 use lib.Seq.{take-at}
-use Rattle.orders.proofs.Tests.{clash}
+use Rattle.orders.proofs.Tests.{clash, is-true}
 use Rattle.board.specs.declared.Answer.{Answer}
 use Rattle.board.specs.declared.Board.{Board}
-use Rattle.board.specs.Answers.{NoneApplies}
+use Rattle.board.specs.Answers.{Answers, NoneApplies}
+use Rattle.board.specs.Filler.{Sized}
+use Rattle.board.specs.Good.{good}
 use Rattle.board.specs.Green.{Green, Red}
 use Rattle.board.specs.Limits.{maxDuties}
 use Rattle.board.specs.Numbers as answer
 use Rattle.board.specs.View.{View, view}
-use Rattle.board.proofs.AnswersLaws.{none-done}
+use Rattle.board.proofs.AnswersLaws.{none-done, done-none}
 use Rattle.layout.specs.Bytes.{AreBytes}
 use Rattle.file.specs.Reads.{boardOf}
 use Rattle.file.proofs.Accepted.{accepted-good}
@@ -25,7 +28,6 @@ use Rattle.calls.specs.declared.Opened.{Opened}
 use Rattle.calls.specs.Opens.{said, Opens}
 use Rattle.calls.proofs.Tick.{open-ticks}
 use Rattle.promises.specs.Calls.{Made, Calls}
-use Rattle.promises.specs.GoodAndGreen.{Whole}
 use Rattle.promises.specs.Judged.{Judged}
 use Rattle.promises.specs.Saved.{fileIn}
 use Rattle.promises.proofs.Denied.{open-judged}
@@ -34,9 +36,15 @@ use Rattle.promises.proofs.StaysGreen.{opened-stays-green}
 -- ---- opening what was saved
 
 module _
-    (b : Board) (w : Whole b) (before after : List ℕ) (r : Answer) (k : Saves b before after r)
+    (b : Board) (sized : Sized b) (before after : List ℕ) (r : Answer) (k : Saves b before after r)
     (done : r .number ≡ answer.done)
   where
+    -- it was not refused with 19
+    is-good : good b ≡ true
+    is-good =
+        let checks = saveChecks b (length before) in
+        is-true (good b) (done-none checks refl (subst (Answers checks) done (k .number)) .0)
+
     -- the file in the buffer is the board's
     pub saved-file : fileIn after r ≡ saved b
     saved-file =
@@ -51,19 +59,19 @@ module _
         opens = subst (λ (s : List ℕ). Opens s list list′ o) saved-file p
 
         says : said (saved b) ≡ view b
-        says = ap view (board-back b (w .sized) (w .is-good))
+        says = ap view (board-back b sized is-good)
 
         judged : Judged (view b) list list′ (o .answer)
         judged =
             subst (λ (v : View). Judged v list list′ (o .answer)) says
             (open-judged (saved b) list list′ o
-            (λ h. omega (arith, room), file-read b (w .sized) (w .is-good)) opens)
+            (λ h. omega (arith, room), file-read b sized is-good) opens)
 
         -- from a green board: the answer is 0, and the board is that one
         pub saved-green : Green (view b) → (o .answer .number ≡ answer.done) × (o .board ≡ b)
         saved-green green =
             let opened = judged .accepted .1 green in
-            (opened, opens .accepted opened ∙ board-back b (w .sized) (w .is-good))
+            (opened, opens .accepted opened ∙ board-back b sized is-good)
 
         -- from a red one: the answer is 8
         pub saved-red : Red (view b) → o .answer .number ≡ answer.red
@@ -79,7 +87,7 @@ pub carried :
     → (u .answer .number ≡ answer.done) × (u .board ≡ left)
 carried s list list′ o p e made left calls before after r k done there there′ u q room =
     let g = opened-stays-green s list list′ o p e made left calls in
-    saved-green left (g .whole) before after r k done there there′ u q room (g .green)
+    saved-green left (g .whole .sized) before after r k done there there′ u q room (g .green)
 
 -- ---- saving what was opened
 

@@ -26,14 +26,14 @@ use Rattle.file.specs.Reads.{readChecks, boardOf}
 use Rattle.file.proofs.Accepted.{viewOf, view-of, accepted-header, accepted-faultless, accepted-good}
 use Rattle.file.proofs.Accepted.{accepted-sized, faultless}
 use Rattle.file.proofs.Filled.{records-length}
-use Rattle.save.specs.FileOf.{countsSaid, countsBytes, startsBytes, headerBytes, permissionBytes, ruleBytes}
+use Rattle.save.specs.FileOf.{countsSaid, countsBytes, offsetsBytes, headerBytes, permissionBytes, ruleBytes}
 use Rattle.save.specs.FileOf.{dutyBytes, part, fileOf}
 use Rattle.save.proofs.FileLaws.{file-length}
 use Rattle.read_back.proofs.Stands.{Stands, stands-both, stands-nothing, whole-is}
 use Rattle.read_back.proofs.Fields.{AllRead, four-stands, fields-stand}
 use Rattle.read_back.proofs.Parts.{part-stands, numbered-length}
 use Rattle.read_back.proofs.Records.{permissionFields, ruleFields, dutyFields}
-use Rattle.read_back.proofs.Records.{countsFields, startsFields}
+use Rattle.read_back.proofs.Records.{countsFields, offsetsFields}
 
 -- ---- what is to be done, read from numbers and told by them again
 
@@ -65,14 +65,14 @@ told-back action first second fits =
       second-back = rw (other, none) (sym empty);
     }))
 
-starts-laid :
+offsets-laid :
     (s : List ℕ) → laidOut s ≡ true
     → (four s 20 ≡ holdingsFrom)
     × (four s 24 ≡ permissionsFrom (countsOf s))
     × (four s 28 ≡ rulesFrom (countsOf s))
     × (four s 32 ≡ dutiesFrom (countsOf s))
     × (four s 36 ≡ totalOf (countsOf s))
-starts-laid s e = search (and-left, and-right, eqb-true) depth 8
+offsets-laid s e = search (and-left, and-right, eqb-true) depth 8
 
 -- ---- a file that reading accepts
 
@@ -94,8 +94,8 @@ module _ (s : List ℕ) (bytes : AreBytes s) (none : NoneApplies (readChecks s))
   laid : laidOut s ≡ true
   laid = is-true (laidOut s) (none .1 .1 .1 .0)
 
-  starts : AllRead s 20 0 (startsFields n)
-  starts = let t = starts-laid s laid in (t .0, (t .1, (t .2, (t .3, (t .4, tt)))))
+  offsets : AllRead s 20 0 (offsetsFields n)
+  offsets = let t = offsets-laid s laid in (t .0, (t .1, (t .2, (t .3, (t .4, tt)))))
 
   header-stands : Stands s 0 (headerBytes n (clockOf s) (nextOf s))
   header-stands =
@@ -106,8 +106,8 @@ module _ (s : List ℕ) (bytes : AreBytes s) (none : NoneApplies (readChecks s))
       (four-stands s bytes 12 (clockOf s) (omega (arith, total)) refl)
       (stands-both (fourBytes (nextOf s)) _ refl
       (four-stands s bytes 16 (nextOf s) (omega (arith, total)) refl)
-      (stands-both (startsBytes n) [] refl
-      (fields-stand s bytes (startsFields n) 20 0 (omega (arith, total)) starts) (stands-nothing 40))))
+      (stands-both (offsetsBytes n) [] refl
+      (fields-stand s bytes (offsetsFields n) 20 0 (omega (arith, total)) offsets) (stands-nothing 40))))
 
   -- ---- the parts
 

@@ -7,7 +7,7 @@ use Prim.Native.Nat.{ℕ, suc, _+_, _/_, _%_, _≤_, _<_}
 use native.Mathlib.Numerals.{add-one}
 use native.Mathlib.Omega.{arith}
 use lib.Dec.{ltb}
-use lib.ListN.{length, drop, getD, length-append}
+use lib.ListN.{length, drop, getD}
 use lib.Seq.{drop-cons, getD-drop, take-length}
 use borrow.Author.Tests.{ltb-true}
 use Rattle.orders.specs.Lists.{all}
@@ -50,11 +50,6 @@ AllRead s at k (f ∷ l) = ReadAt s (at + k) f × AllRead s at (k + width f) l
 field-width : (f : Field) → length (fieldBytes f) ≡ width f
 field-width (short n) = refl
 field-width (long n) = refl
-
-pub fields-width : (l : List Field) → length (fieldsBytes l) ≡ widths l
-fields-width [] = refl
-fields-width (f ∷ l) =
-    omega (arith, length-append (fieldBytes f) (fieldsBytes l), field-width f, fields-width l)
 
 pub all-at :
     {A : Type 0} (p : A → Bool) (l : List A) (z : A) → all p l ≡ true → (i : ℕ) → i < length l

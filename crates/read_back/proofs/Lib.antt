@@ -5,3 +5,4 @@ pub mod Records
 pub mod Places
 pub mod ReadBack
 pub mod BytesBack
+pub mod Case8

@@ -25,19 +25,19 @@ use Rattle.layout.specs.Bytes.{two, four, fourBytes}
 use Rattle.layout.specs.Layout.{countsOf, clockOf, nextOf, holdingsFrom, permissionsFrom, rulesFrom}
 use Rattle.layout.specs.Layout.{dutiesFrom, holdingSize, permissionSize, ruleSize, dutySize}
 use Rattle.file.specs.Records.{holdingAt, permissionAt, ruleAt, ruleSpare, dutyAt, secondFitsAt}
-use Rattle.save.specs.FileOf.{countsSaid, countsBytes, startsBytes, headerBytes, permissionBytes, ruleBytes}
+use Rattle.save.specs.FileOf.{countsSaid, countsBytes, offsetsBytes, headerBytes, permissionBytes, ruleBytes}
 use Rattle.save.specs.FileOf.{dutyBytes, part, fileOf}
 use Rattle.save.proofs.PartLaws.{part-length}
 use Rattle.read_back.proofs.Stands.{Stands, stands-first, stands-second, stands-whole}
 use Rattle.read_back.proofs.Fields.{AllRead, fields-read, four-read}
 use Rattle.read_back.proofs.Records.{permissionFields, ruleFields, dutyFields}
-use Rattle.read_back.proofs.Records.{countsFields, startsFields}
+use Rattle.read_back.proofs.Records.{countsFields, offsetsFields}
 use Rattle.read_back.proofs.Parts.{record-stands}
 
 -- ---- what the bytes at a place say
 
-abbrev permissionFrom : List ℕ → ℕ → Permission
-permissionFrom s at = record { role = two s at; action = two s (at + 2); object = two s (at + 4) }
+abbrev permissionReadAt : List ℕ → ℕ → Permission
+permissionReadAt s at = record { role = two s at; action = two s (at + 2); object = two s (at + 4) }
 
 abbrev ruleReadAt : List ℕ → ℕ → Rule
 ruleReadAt s at =
@@ -99,10 +99,10 @@ module _ (v : View) (fits : ViewFits v) where
   pub counts-read : AllRead s 0 0 (countsFields n)
   counts-read = fields-read s (countsFields n) 0 0 (stands-first (countsBytes n) _ header)
 
-  after-counts : Stands s 12 (fourBytes (v .clock) ++ (fourBytes (v .next) ++ (startsBytes n ++ [])))
+  after-counts : Stands s 12 (fourBytes (v .clock) ++ (fourBytes (v .next) ++ (offsetsBytes n ++ [])))
   after-counts = stands-second (countsBytes n) _ refl header
 
-  after-clock : Stands s 16 (fourBytes (v .next) ++ (startsBytes n ++ []))
+  after-clock : Stands s 16 (fourBytes (v .next) ++ (offsetsBytes n ++ []))
   after-clock = stands-second (fourBytes (v .clock)) _ refl after-counts
 
   pub clock-back : clockOf s ≡ v .clock
@@ -111,10 +111,10 @@ module _ (v : View) (fits : ViewFits v) where
   pub next-back : nextOf s ≡ v .next
   next-back = four-read s 16 (v .next) (stands-first (fourBytes (v .next)) _ after-clock)
 
-  pub starts-read : AllRead s 20 0 (startsFields n)
-  starts-read =
-      fields-read s (startsFields n) 20 0
-      (stands-first (startsBytes n) [] (stands-second (fourBytes (v .next)) _ refl after-clock))
+  pub offsets-read : AllRead s 20 0 (offsetsFields n)
+  offsets-read =
+      fields-read s (offsetsFields n) 20 0
+      (stands-first (offsetsBytes n) [] (stands-second (fourBytes (v .next)) _ refl after-clock))
 
   pub counts-back : countsOf s ≡ n
   counts-back =
@@ -184,7 +184,7 @@ module _ (v : View) (fits : ViewFits v) where
     pub permission-back : permissionAt s i ≡ permission
     permission-back =
         let r = rw (add-zero (permissionPlace n)) at permission-read in
-        ap (λ (m : Counts). permissionFrom s (permissionPlace m)) counts-back
+        ap (λ (m : Counts). permissionReadAt s (permissionPlace m)) counts-back
         ∙ (λ j. record { role = r .0 j; action = r .1 .0 j; object = r .1 .1 .0 j })
 
   module _ (i : ℕ) (h : i < length (v .rules)) where

@@ -225,7 +225,7 @@ module _ (v : View) (fits : ViewFits v) where
 
   laid-out : laidOut s ≡ true
   laid-out =
-      let r = places.starts-read v fits in
+      let r = places.offsets-read v fits in
       let all-said = ap totalOf counts-back in
       search (
         and-both,
@@ -239,7 +239,7 @@ module _ (v : View) (fits : ViewFits v) where
 
   pub reads-back : NoneApplies (readChecks s)
   reads-back =
-      let r = places.starts-read v fits .1 .1 .1 .1 .0 in
+      let r = places.offsets-read v fits .1 .1 .1 .1 .0 in
       let none = faultless-first s no-fault in (
         λ h. omega (arith, whole-length),
         (

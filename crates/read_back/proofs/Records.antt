@@ -36,8 +36,8 @@ countsFields n =
     ∷ short (n .duties)
     ∷ []
 
-abbrev pub startsFields : Counts → List Field
-startsFields n =
+abbrev pub offsetsFields : Counts → List Field
+offsetsFields n =
     long holdingsFrom
     ∷ long (permissionsFrom n)
     ∷ long (rulesFrom n)

@@ -2,7 +2,7 @@
 use mathlib.Core.Path.{_≡_, refl, ap, _∙_}
 use mathlib.Core.Bool.{true}
 use mathlib.Core.List.{List, [], _++_}
-use Prim.Native.Nat.{ℕ, _+_, _*_}
+use Prim.Native.Nat.{ℕ, _+_, _*_, _≤_}
 use native.Mathlib.Omega.{arith}
 use lib.ListN.{length, take, length-append}
 use lib.Seq.{length-take-le}
@@ -13,7 +13,7 @@ use Rattle.board.specs.Good.{good}
 use Rattle.board.specs.View.{View, view}
 use Rattle.board.proofs.GoodLaws.{good→counts}
 use Rattle.layout.specs.Bytes.{fourBytes}
-use Rattle.layout.specs.Layout.{holdingSize, permissionSize, ruleSize, dutySize, totalOf}
+use Rattle.layout.specs.Layout.{holdingSize, permissionSize, ruleSize, dutySize, totalOf, longest}
 use Rattle.put.specs.Put.{Put}
 use Rattle.put.proofs.PutLaws.{put-last, put-then}
 use Rattle.save.specs.FileOf.{
@@ -91,6 +91,10 @@ module _ (b : Board) (s : Sized b) (g : good b ≡ true) where
 
   pub saved-length : length (saved b) ≡ totalOf (b .counts)
   saved-length = file-length (view b) users ∙ ap totalOf counts-said
+
+  -- and never longer than the longest file
+  pub saved-fits : length (saved b) ≤ longest
+  saved-fits = let n = good→counts b g in omega (arith, saved-length, n)
 
   -- how long the parts are
   pub holdings-length :

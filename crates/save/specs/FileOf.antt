@@ -37,9 +37,9 @@ countsBytes n =
     ∷ twoBytes (n .duties)
     ∷ [])
 
--- where each part starts, and the total length
-abbrev pub startsBytes : Counts → List ℕ
-startsBytes n =
+-- the offsets, where each part starts, and the total length
+abbrev pub offsetsBytes : Counts → List ℕ
+offsetsBytes n =
     together
     (fourBytes holdingsFrom
     ∷ fourBytes (permissionsFrom n)
@@ -50,7 +50,7 @@ startsBytes n =
 
 abbrev pub headerBytes : Counts → ℕ → ℕ → List ℕ
 headerBytes n clock next =
-    together (countsBytes n ∷ fourBytes clock ∷ fourBytes next ∷ startsBytes n ∷ [])
+    together (countsBytes n ∷ fourBytes clock ∷ fourBytes next ∷ offsetsBytes n ∷ [])
 
 -- ---- one record: a holding is the four bytes of its set
 

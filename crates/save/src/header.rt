@@ -7,11 +7,11 @@ ghost use Prim.Native.Nat.{_+_, _≤_};
 ghost use lib.ListN.{length};
 ghost use Rattle.layout.specs.Layout.{headerSize};
 ghost use Rattle.put.specs.Put.{Put};
-ghost use Rattle.save.specs.FileOf.{countsBytes, startsBytes, headerBytes};
+ghost use Rattle.save.specs.FileOf.{countsBytes, offsetsBytes, headerBytes};
 
 // Put the version and the counts.
 fn put_counts(out: &mut [u8], at: usize, counts: Counts) -> usize
-    requires { ⌜ at + 12 ≤ length (now out) ⌝ }
+    requires { ⌜ at + length (countsBytes counts) ≤ length (now out) ⌝ }
     ensures { λ r. ⌜ Put (countsBytes counts) (now (out .entry)) at (now (out .exit)) r ⌝ }
 {
     let users = put_two(out, at, layout::VERSION);
@@ -22,10 +22,10 @@ fn put_counts(out: &mut [u8], at: usize, counts: Counts) -> usize
     put_two(out, duties, counts.duties)
 }
 
-// Put where each part starts, and the total length.
-fn put_starts(out: &mut [u8], at: usize, counts: Counts) -> usize
-    requires { ⌜ at + 20 ≤ length (now out) ⌝ }
-    ensures { λ r. ⌜ Put (startsBytes counts) (now (out .entry)) at (now (out .exit)) r ⌝ }
+// Put the offsets, where each part starts, and the total length.
+fn put_offsets(out: &mut [u8], at: usize, counts: Counts) -> usize
+    requires { ⌜ at + length (offsetsBytes counts) ≤ length (now out) ⌝ }
+    ensures { λ r. ⌜ Put (offsetsBytes counts) (now (out .entry)) at (now (out .exit)) r ⌝ }
 {
     let permissions = put_four(out, at, layout::HEADER as u32);
     let rules = put_four(out, permissions, layout::permissions_from(counts) as u32);
@@ -42,5 +42,5 @@ pub(crate) fn put_header(out: &mut [u8], counts: Counts, clock: u32, next: Seria
     let after_counts = put_counts(out, 0, counts);
     let after_clock = put_four(out, after_counts, clock);
     let after_next = put_four(out, after_clock, next.0);
-    put_starts(out, after_next, counts)
+    put_offsets(out, after_next, counts)
 }

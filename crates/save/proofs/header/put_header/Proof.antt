@@ -14,22 +14,22 @@ put-four-requires c κs = search needs
 put-four-requires-2 : tie.Need-put-four-requires-2
 put-four-requires-2 c κs = search needs
 
-put-starts-requires : tie.Need-put-starts-requires
-put-starts-requires c κs = omega arith
+put-offsets-requires : tie.Need-put-offsets-requires
+put-offsets-requires c κs = omega arith
 
 same-length : tie.Need-same-length
 same-length c = search needs
 
 returns : tie.Need-returns
 returns c =
-    let starts = c .before .before in
-    let next = starts .before .before .before .before in
+    let offsets = c .before .before in
+    let next = offsets .before .before .before .before in
     let clock = next .before .before .before .before in
     let counts = clock .before .before .before .before in
     put-then (counts .put-counts .ensures)
     (put-then (clock .put-four .ensures)
     (put-then (next .put-four2 .ensures)
-    (put-last (starts .put-starts .ensures))))
+    (put-last (offsets .put-offsets .ensures))))
 
 pub put-header-spec : {M : Type 1} → statement M
 put-header-spec =
@@ -38,6 +38,6 @@ put-header-spec =
     put-counts-requires
     put-four-requires
     put-four-requires-2
-    put-starts-requires
+    put-offsets-requires
     same-length
     returns)

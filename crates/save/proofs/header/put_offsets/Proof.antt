@@ -1,8 +1,8 @@
 -- The numbers are put one after the other.
 use borrow.Author.Needs.{needs}
 use Rattle.put.proofs.PutLaws.{put-last, put-then}
-use Rattle.save.proofs.header.put_starts.Statement.{statement}
-use Rattle.save.proofs.header.put_starts.Tie as tie
+use Rattle.save.proofs.header.put_offsets.Statement.{statement}
+use Rattle.save.proofs.header.put_offsets.Tie as tie
 
 cast-put-four : tie.Need-cast-put-four
 cast-put-four c = search needs
@@ -62,8 +62,8 @@ returns c =
     (put-then (rw (duties .before .duties-from .ensures) at (duties .put-four4 .ensures))
     (put-last (rw (total .before .total-of .ensures) at (total .put-four5 .ensures))))))
 
-pub put-starts-spec : {M : Type 1} → statement M
-put-starts-spec =
+pub put-offsets-spec : {M : Type 1} → statement M
+put-offsets-spec =
     tie.close
     (tie.spec
     cast-put-four
