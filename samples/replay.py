@@ -9,9 +9,10 @@ The lines of a listing, in turn:
     withdraw SERIAL at CLOCK
     check
     save LENGTH                                      into a lent buffer of this length
+    walk
     poke users|roles|permissions|rules|duties|clock|next VALUE
     poke holding|permission|wanted|start|end|serial|doer PLACE VALUE
-    broken .. back OLD                               a poke, each of the six calls, and a poke back to OLD
+    broken .. back OLD                               a poke, each of the seven calls, and a poke back to OLD
     kind NUMBER                                      a record of another kind
     bytes COUNT                                      so many zeros, for an incomplete last record
 At the end of a line FIELD=NUMBER sets a field of the record otherwise; lent is 128 where it is not set.
@@ -23,12 +24,12 @@ import struct
 import sys
 
 FIELDS = ('kind', 'lent', 'doer', 'action', 'first', 'second', 'start', 'end', 'clock', 'serial', 'extra')
-KINDS = ('admit', 'act', 'do', 'withdraw', 'check', 'save')
+KINDS = ('admit', 'act', 'do', 'withdraw', 'check', 'save', 'walk')
 POKE = 9
 COUNTS = ('users', 'roles', 'permissions', 'rules', 'duties', 'clock', 'next')
 PLACES = ('holding', 'permission', 'wanted', 'start', 'end', 'serial', 'doer')
 EACH_CALL = ('admit 0 use 2 on 0 0 0 at 0 lent=0', 'act 0 use 2 on 0 at 0 lent=0', 'do 0 at 0',
-             'withdraw 0 at 0 lent=0', 'check lent=0', 'save 0')
+             'withdraw 0 at 0 lent=0', 'check lent=0', 'save 0', 'walk lent=0')
 
 
 class Slip(Exception):
@@ -92,7 +93,7 @@ def fields_of(words):
     elif call == 'act':
         doer, clock = expect(rest[:1] + rest[5:], 'N at N')
         fields.update(doing(rest[1:5]), doer=doer, clock=clock)
-    elif call == 'check':
+    elif call in ('check', 'walk'):
         expect(rest, '')
     else:
         fields.update(zip(('serial', 'clock'), expect(rest, 'N at N')))

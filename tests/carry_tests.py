@@ -108,7 +108,8 @@ class Carry(FolderTest):
 
     def test_what_changes_nothing(self):
         board = read(sample('case2.board'))
-        self.assertEqual(self.carried(session(board, save(), save(0), record(kind=6), bytes(31)), 0), board)
+        calls = save(), save(0), record(kind=6, lent=128), record(kind=6), record(kind=7), bytes(31)
+        self.assertEqual(self.carried(session(board, *calls), 0), board)
 
     def test_refused(self):
         board = read(sample('case2.board'))

@@ -8,6 +8,7 @@ import struct
 USERS, ROLES, PERMISSIONS, RULES, DUTIES = 64, 32, 512, 64, 128
 LARGEST = 4294967295
 WALKED = 7  # pools of at most so many duties are judged by walking every order
+MOST = 8  # the call walk takes pools of at most so many duties
 
 # a permission is (role, action, object), a rule (kind, actor, role, wanted, barred),
 # a duty (serial, doer, action, first, second, start, end)
@@ -207,6 +208,24 @@ def is_red(board):
     return walked
 
 
+def first_failing(board):
+    """The serials of the failing order that is found first: each duty that may come next is done, lower
+    serials first, and then the rest is walked in the same way. None on a green board."""
+    def walk(pool, holdings):
+        for d in sorted(pool):
+            if not any(wholly_before(e, d) for e in pool):
+                if not permitted(board, holdings, *d[1:5]):
+                    return [d[0]]
+                rest = walk([e for e in pool if e is not d], changed(holdings, *d[2:5]))
+                if rest:
+                    return [d[0]] + rest
+        return None
+
+    order = walk(board.pool(), tuple(board.holdings))
+    assert (order is not None) == is_red(board), 'the plain walk and the verdict disagree'
+    return order
+
+
 def is_failing_order(board, order):
     """Whether these serials are the beginning of an allowed order, all permitted in turn except the last."""
     pool = board.pool()
@@ -380,6 +399,14 @@ def check(board, q):
     return (8, 0, board, board) if is_red(board) else (0, 0, board, None)
 
 
+def walk(board, lent):
+    """The number, and the first failing order."""
+    number = first_of((
+        (19, lambda: not is_good(board)), (9, lambda: lent < DUTIES), (22, lambda: board.open > MOST)))
+    order = None if number else first_failing(board)
+    return (8, order) if order else (number, [])
+
+
 CALLS = {0: admit, 1: act, 2: do, 3: withdraw, 4: check}
 
 
@@ -483,6 +510,20 @@ def save_line(board, q):
     return Line('%d 0 %d%s' % (number, len(file), ' ' + file.hex() if file else ''))
 
 
+def walk_line(board, q):
+    number, order = walk(board, q.lent)
+    return Line(' '.join(str(word) for word in [number, 0, len(order)] + order))
+
+
+def line_of(board, q):
+    """The line of a record that is none of CALLS."""
+    if q.kind == 5:
+        return save_line(board, q)
+    if q.kind == 6:
+        return walk_line(board, q)
+    return Line('poke' if q.kind == 9 else '?')
+
+
 def replayed(s):
     """The lines for an input."""
     file, records = session_of(s)
@@ -493,7 +534,7 @@ def replayed(s):
         if q.kind in CALLS:
             lines.append(answer_line('%d %d' % (number, serial), number, red))
         else:
-            lines.append(save_line(board, q) if q.kind == 5 else Line('poke' if q.kind == 9 else '?'))
+            lines.append(line_of(board, q))
         board = left
     return lines + list(board_lines(board))
 

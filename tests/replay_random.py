@@ -101,9 +101,18 @@ def pokes(draw, base, board):
         yield packed(kind=9, first=first, second=second, extra=old_value(board, first, second))
 
 
+def walks(draw, board):
+    """A poke of a holding, which often makes the board red, a walk, and a poke that sets it back."""
+    user = draw.randrange(min(max(board.users, 1), model.USERS))
+    roles = few(draw, min(max(board.roles, 1), model.ROLES))
+    yield packed(kind=9, first=7, second=user, extra=roles)
+    yield packed(kind=6, lent=128)
+    yield packed(kind=9, first=7, second=user, extra=board.holdings[user])
+
+
 def call(draw, base, board):
     """A call that often fits the board, and sometimes is wrong in a field."""
-    kind = draw.choice((0,) * 8 + (1,) * 5 + (2,) * 6 + (3,) * 2 + (4,))
+    kind = draw.choice((0,) * 8 + (1,) * 5 + (2,) * 6 + (3,) * 2 + (4,) + (6,) * 2)
     action, first, second = doing(draw, board.users or 1, board.roles or 1)
     start, end = window(draw, draw.choice((base, max(base, board.clock - 2))))
     d = draw.choice(board.pool() or [model.NO_DUTY])
@@ -122,13 +131,15 @@ def call(draw, base, board):
 def turns(draw, base, board):
     """The records of one turn."""
     which = draw.random()
-    if which < 0.8:
+    if which < 0.75:
         return [call(draw, base, board)]
+    if which < 0.8:
+        return walks(draw, board)
     if which < 0.85:
         return [save(draw, board)]
     if which < 0.98:
         return pokes(draw, base, board)
-    return [packed(kind=draw.choice((6, 7, 8, 10, 11, 12, 13, 65535)), first=7, extra=1)]
+    return [packed(kind=draw.choice((7, 8, 10, 11, 12, 13, 65535)), first=7, extra=1)]
 
 
 def save(draw, board):

@@ -2,8 +2,9 @@
 """replay_stored.py: makes the stored runs of `replay` and `carry`, stdin and stdout, from their calls.txt.
 
 stdout is not what the program wrote: it comes from the model of live_model.py, which shares nothing with the
-programs. The model has to find each failing order to be the only one, else this stops; so every line is
-settled. The answers that are met are listed at the end. Needs Python 3 alone."""
+programs. The model has to find each failing order to be the only one, else this stops, but for those of walk,
+which are fixed by definition; so every line is settled. The answers that are met are listed at the end. Needs
+Python 3 alone."""
 import os
 import sys
 

@@ -26,7 +26,7 @@ list ok
 SLIPS = {
     'do Raj at 5': 'do: Raj is to be a number',
     'do 1': 'do: expected N at N, N a number',
-    'remove 1 at 5': 'remove: remove is to be one of: admit act do withdraw check save',
+    'remove 1 at 5': 'remove: remove is to be one of: admit act do withdraw check save walk',
     'act 0 grant 2 from 3 at 1': 'act: from is to be to',
     'act 0 revoke 2 to 3 at 1': 'act: to is to be from',
     'admit 0 use 2 on 0 1 at 3': 'admit: expected N N N at N, N a number',

@@ -20,13 +20,14 @@ TICK = os.path.join(HERE, '..', 'tick')
 # permitted, in 2 1 the use is not. Mended, 2 starts after the end of 1, so 1 2 is the only order. On the
 # open day 6 needs a role that 7 takes away, and the two share a minute, so 7 may come first, once 1 to 5 are
 # done, which are wholly before it; each of these is permitted. It is one of several failing orders: the one
-# that the verdict tells.
+# that the verdict tells. So it is at the bench: 2 needs a role that 5 takes away, and the two share five
+# minutes, so 5 may come first, once 1 and 3 are done.
 SAMPLE_LINES = {
     'case1': 'yes 0', 'case2': 'yes 2', 'case3': 'no 1 2', 'case4': 'yes 2', 'case5': 'no 2 1 2',
     'case6': 'no 2 2 1', 'case6b': 'yes 2', 'case7': 'yes 3', 'case8': 'no 3 2 1 3', 'case9': 'yes 2',
     'case9b': 'no 1 2', 'case10': 'no 1 1', 'case11': 'no 2 1 2',
     'saturday': 'no 2 2 1', 'saturday-mended': 'yes 2',
-    'open-day': 'no 7 1 2 3 4 5 7 6', 'open-day-mended': 'yes 15',
+    'open-day': 'no 7 1 2 3 4 5 7 6', 'open-day-mended': 'yes 15', 'turns': 'no 4 1 3 5 2',
 }
 
 GRANT = 0

@@ -88,3 +88,7 @@ room = 20
 -- window over: its end is below the call's clock
 abbrev pub over : ℕ
 over = 21
+
+-- more than 8 duties, for a plain walk
+abbrev pub many : ℕ
+many = 22

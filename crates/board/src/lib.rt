@@ -213,6 +213,8 @@ impl Answer {
 
     pub const OVER: u8 = 21;
 
+    pub const MANY: u8 = 22;
+
     // The answer with this number, no serial and no failing order.
     pub fn plain(number: u8) -> Self
         ensures { λ r. ⌜ r ≡ plainAnswer number ⌝ }

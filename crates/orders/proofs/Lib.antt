@@ -16,6 +16,7 @@ pub mod Decide
 pub mod Fact
 pub mod Walks
 pub mod Lengths
+pub mod Plain
 pub mod TrailFails
 pub mod SameMembers
 pub mod Clock

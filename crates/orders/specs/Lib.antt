@@ -1,6 +1,7 @@
 pub mod Lists
 pub mod Orders
 pub mod Walks
+pub mod Plain
 pub mod Beginnings
 pub mod Needs
 pub mod Criterion

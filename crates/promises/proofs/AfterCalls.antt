@@ -35,7 +35,7 @@ use Rattle.act.proofs.Acting as acting
 use Rattle.do_duty.specs.Does.{HeldBack, doChecks}
 use Rattle.withdraw.specs.Withdraws.{afterWithdraw, withdrawEarlier}
 use Rattle.withdraw.proofs.Withdrawing as withdrawing
-use Rattle.promises.specs.Calls.{Call, admit, act, doDuty, withdraw, check as checks, save}
+use Rattle.promises.specs.Calls.{Call, admit, act, doDuty, withdraw, check as checks, save, walk}
 use Rattle.promises.specs.GoodAndGreen.{Whole, GoodAndGreen}
 use Rattle.promises.proofs.DidLaws.{did-green}
 use Rattle.promises.proofs.Kept.{checksOf, afterCall}
@@ -69,6 +69,7 @@ after-fits b w (withdraw before q) none =
     withdrawing.fits-after b (w .sized) (length before) q past
 after-fits b w (checks before) none = whole-fits b w
 after-fits b w (save before) none = whole-fits b w
+after-fits b w (walk before) none = whole-fits b w
 
 -- ---- it is green
 
@@ -122,6 +123,7 @@ after-green b g (doDuty q) none =
     rw (← n .has-serial) (did-green (view b) fits (q .clock) (n .duty) (n .next) (g .green))
 after-green b g (checks before) none = g .green
 after-green b g (save before) none = g .green
+after-green b g (walk before) none = g .green
 after-green b g (admit before q) none =
     let fits = after-fits b (g .whole) (admit before q) none in
     green-not-red (afterAdmit b q) (fits .records)

@@ -17,11 +17,12 @@ use Rattle.board.specs.View.{View, view}
 use Rattle.board.proofs.AnswersLaws.{Refusing, done-none}
 use Rattle.save.specs.Saves.{saveChecks}
 use Rattle.verdict.specs.Checked.{checkChecks}
+use Rattle.plain.specs.Walks.{walkChecks}
 use Rattle.admit.specs.Admits.{afterAdmit, admitChecks}
 use Rattle.act.specs.ActsNow.{afterAct, actChecks}
 use Rattle.do_duty.specs.Does.{afterDo, doChecks}
 use Rattle.withdraw.specs.Withdraws.{afterWithdraw, withdrawChecks}
-use Rattle.promises.specs.Calls.{Call, admit, act, doDuty, withdraw, check, save, Keeps}
+use Rattle.promises.specs.Calls.{Call, admit, act, doDuty, withdraw, check, save, walk, Keeps}
 
 abbrev pub lent : Call → List ℕ
 lent (admit before q) = before
@@ -30,6 +31,7 @@ lent (doDuty q) = []
 lent (withdraw before q) = before
 lent (check before) = before
 lent (save before) = before
+lent (walk before) = before
 
 abbrev pub checksOf : Board → Call → List Check
 checksOf b (admit before q) = admitChecks b (length before) q
@@ -38,8 +40,9 @@ checksOf b (doDuty q) = doChecks b q
 checksOf b (withdraw before q) = withdrawChecks b (length before) q
 checksOf b (check before) = checkChecks b (length before)
 checksOf b (save before) = saveChecks b (length before)
+checksOf b (walk before) = walkChecks b (length before)
 
--- what the board says after the call, if it is accepted; check and save only read it
+-- what the board says after the call, if it is accepted; check, save and walk only read it
 abbrev pub afterCall : Board → Call → View
 afterCall b (admit before q) = afterAdmit b q
 afterCall b (act before q) = afterAct b q
@@ -47,6 +50,7 @@ afterCall b (doDuty q) = afterDo b q
 afterCall b (withdraw before q) = afterWithdraw b q
 afterCall b (check before) = view b
 afterCall b (save before) = view b
+afterCall b (walk before) = view b
 
 -- what holds of the board value left: accepted, no check applied and it says what the promise names; refused,
 -- it is the one given
@@ -79,3 +83,4 @@ kept b (withdraw before q) r left after k =
     either-way (withdrawChecks b (length before) q) b (afterWithdraw b q) 0 before after r left refl k
 kept b (check before) r left after k = λ P accepted refused. subst P (sym (k .1)) refused
 kept b (save before) r left after k = λ P accepted refused. subst P (sym (k .1)) refused
+kept b (walk before) r left after k = λ P accepted refused. subst P (sym (k .1)) refused

@@ -9,3 +9,4 @@ pub mod Serials
 pub mod Settled
 pub mod Saved
 pub mod Worthless
+pub mod Walked

@@ -21,7 +21,19 @@ use Rattle.board.proofs.GoodLaws.{good→records, records→range}
 use Rattle.board.proofs.SayingLaws.{view-saying}
 use Rattle.requests.specs.declared.AskAdmit.{AskAdmit}
 use Rattle.admit.specs.Admits.{afterAdmit, admitChecks, Admits}
-use Rattle.promises.specs.Calls.{Call, admit, act, doDuty, withdraw, check, save, Keeps, Made, Calls}
+use Rattle.promises.specs.Calls.{
+  Call,
+  admit,
+  act,
+  doDuty,
+  withdraw,
+  check,
+  save,
+  walk,
+  Keeps,
+  Made,
+  Calls,
+}
 use Rattle.promises.specs.Given.{given, allGiven, NeverTwice}
 use Rattle.promises.specs.GoodAndGreen.{Whole}
 use Rattle.promises.proofs.AfterCalls.{after-fits}
@@ -79,6 +91,7 @@ module _ (b : Board) (w : Whole b) where
   next-rises (withdraw before q) = omega arith
   next-rises (check before) = omega arith
   next-rises (save before) = omega arith
+  next-rises (walk before) = omega arith
 
   -- the next serial does not fall
   rises :
@@ -106,6 +119,7 @@ module _ (b : Board) (w : Whole b) where
   call-gives (withdraw before q) r left after k = none-between _ _ (rises (withdraw before q) r left after k)
   call-gives (check before) r left after k = none-between _ _ (rises (check before) r left after k)
   call-gives (save before) r left after k = none-between _ _ (rises (save before) r left after k)
+  call-gives (walk before) r left after k = none-between _ _ (rises (walk before) r left after k)
   call-gives (admit before q) r left after k =
       by-test
       (eqb (r .number) answer.done)

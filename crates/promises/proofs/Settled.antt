@@ -21,11 +21,12 @@ use Rattle.board.proofs.ToldLaws.{same-told}
 use Rattle.save.specs.Saves.{saveChecks}
 use Rattle.save.proofs.Settled.{same-save}
 use Rattle.verdict.specs.Checked.{checkChecks}
+use Rattle.plain.proofs.Settled.{same-walk, walk-told}
 use Rattle.admit.specs.Admits.{afterAdmit, admitChecks}
 use Rattle.act.specs.ActsNow.{afterAct, actChecks}
 use Rattle.do_duty.specs.Does.{afterDo, doChecks}
 use Rattle.withdraw.specs.Withdraws.{afterWithdraw, withdrawChecks}
-use Rattle.promises.specs.Calls.{Call, admit, act, doDuty, withdraw, check, save, Keeps}
+use Rattle.promises.specs.Calls.{Call, admit, act, doDuty, withdraw, check, save, walk, Keeps}
 use Rattle.promises.specs.Settled.{Settled}
 use Rattle.promises.proofs.Kept.{lent}
 
@@ -124,4 +125,19 @@ call-settled b (save before) after after′ r r′ left left′ j k =
           absurd
           (never-answered answer.red (saveChecks b (length before)) (r .number) (λ q. omega arith) refl
           (j .0 .number) e);
+    }
+call-settled b (walk before) after after′ r r′ left left′ j k =
+    let same = same-walk b before after after′ r r′ (j .0) (k .0) in
+    let number = ap (λ (a : Answer). a .number) (same .0) in
+    record {
+      number = number;
+      serial = ap (λ (a : Answer). a .serial .0) (same .0);
+      board = j .1 ∙ sym (k .1);
+      equal = λ f. same;
+      chosen = λ h. same;
+      beyond = λ e. (
+        beyond-is (view b) before after (r .length) (walk-told b before after r (j .0) .red e),
+        beyond-is (view b) before after′ (r′ .length)
+            (walk-told b before after′ r′ (k .0) .red (sym number ∙ e)),
+      );
     }

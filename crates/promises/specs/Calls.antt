@@ -11,6 +11,7 @@ use Rattle.requests.specs.declared.AskDo.{AskDo}
 use Rattle.requests.specs.declared.AskWithdraw.{AskWithdraw}
 use Rattle.save.specs.Saves.{Saves}
 use Rattle.verdict.specs.Checked.{Checked}
+use Rattle.plain.specs.Walks.{Walks}
 use Rattle.admit.specs.Admits.{Admits}
 use Rattle.act.specs.ActsNow.{ActsNow}
 use Rattle.do_duty.specs.Does.{Does}
@@ -24,6 +25,7 @@ pub data Call : Type 0 where
   withdraw : List ℕ → AskWithdraw → Call
   check : List ℕ → Call
   save : List ℕ → Call
+  walk : List ℕ → Call
 
 -- The answer, the board value left and the lent list or buffer left keep the promise of the call on the board
 -- value b.
@@ -34,6 +36,7 @@ Keeps b (doDuty q) r left after = Does b q r left × (after ≡ [])
 Keeps b (withdraw before q) r left after = Withdraws b before q r left after
 Keeps b (check before) r left after = Checked b before after r × (left ≡ b)
 Keeps b (save before) r left after = Saves b before after r × (left ≡ b)
+Keeps b (walk before) r left after = Walks b before after r × (left ≡ b)
 
 -- a call that was made, with its answer and the lent list or buffer after it
 pub record Made : Type 0 where

@@ -9,7 +9,7 @@ use Rattle.board.specs.declared.Board.{Board}
 use Rattle.board.specs.declared.Duty.{Duty}
 use Rattle.board.specs.Numbers as answer
 use Rattle.board.specs.View.{view}
-use Rattle.promises.specs.Calls.{Call, admit, act, doDuty, withdraw, check, save, Made}
+use Rattle.promises.specs.Calls.{Call, admit, act, doDuty, withdraw, check, save, walk, Made}
 
 -- the serial that this call gave, if it is an accepted admission
 abbrev pub given : Call → Answer → List ℕ
@@ -19,6 +19,7 @@ given (doDuty q) r = []
 given (withdraw before q) r = []
 given (check before) r = []
 given (save before) r = []
+given (walk before) r = []
 
 -- the serials that these calls gave, in turn
 abbrev pub allGiven : List Made → List ℕ

@@ -95,6 +95,7 @@ fn turn(live: Live, r: Record, number: usize, out: &mut [u8; ROOM]) -> Live {
     let kind = r.kind;
     match kind {
         session::ADMIT..=session::CHECK => answered(live, r, number, out),
+        session::WALK => answered(live, r, number, out),
         session::SAVE => saved(live, r, number, out),
         session::POKE => set(live, r, out),
         _ => unknown(live, out),

@@ -13,6 +13,7 @@ use Rattle.requests.specs.declared.AskDo.{AskDo}
 use Rattle.requests.specs.declared.AskWithdraw.{AskWithdraw}
 use Rattle.outcomes.specs.declared.Outcome.{Outcome}
 use Rattle.outcomes.specs.Outcomes.{Flagged, refusedWith}
+use Rattle.plain.specs.Walks.{Walks}
 use Rattle.admit.specs.Admits.{Admits}
 use Rattle.act.specs.ActsNow.{ActsNow}
 use Rattle.do_duty.specs.Does.{Does}
@@ -32,7 +33,8 @@ module _ (b : Board) (r : Record) (before after : List ℕ) (o : Outcome) where
         does = λ e. absurd (omega arith);
         withdraws = λ e. absurd (omega arith);
         checks = λ e. absurd (omega arith);
-        none = λ e. absurd (omega arith);
+        walks = λ e. absurd (omega arith);
+        none = λ e _. absurd (omega arith);
       }
 
   pub made-act :
@@ -46,7 +48,8 @@ module _ (b : Board) (r : Record) (before after : List ℕ) (o : Outcome) where
         does = λ e. absurd (omega arith);
         withdraws = λ e. absurd (omega arith);
         checks = λ e. absurd (omega arith);
-        none = λ e. absurd (omega arith);
+        walks = λ e. absurd (omega arith);
+        none = λ e _. absurd (omega arith);
       }
 
   pub made-do :
@@ -62,7 +65,8 @@ module _ (b : Board) (r : Record) (before after : List ℕ) (o : Outcome) where
         );
         withdraws = λ e. absurd (omega arith);
         checks = λ e. absurd (omega arith);
-        none = λ e. absurd (omega arith);
+        walks = λ e. absurd (omega arith);
+        none = λ e _. absurd (omega arith);
       }
 
   pub made-withdraw :
@@ -79,7 +83,8 @@ module _ (b : Board) (r : Record) (before after : List ℕ) (o : Outcome) where
             asks
             kept;
         checks = λ e. absurd (omega arith);
-        none = λ e. absurd (omega arith);
+        walks = λ e. absurd (omega arith);
+        none = λ e _. absurd (omega arith);
       }
 
   pub made-check :
@@ -96,18 +101,39 @@ module _ (b : Board) (r : Record) (before after : List ℕ) (o : Outcome) where
           subst (λ (a : Answer). Checked b before after a) (sym same) kept,
           gives ∙ (λ i. outcomeOf b (sym same i)),
         );
-        none = λ e. absurd (omega arith);
+        walks = λ e. absurd (omega arith);
+        none = λ e _. absurd (omega arith);
+      }
+
+  pub made-walk :
+      (answer : Answer) → r .kind ≡ 6 → o ≡ outcomeOf b answer → Walks b before after answer
+      → Makes b r before o after
+  made-walk answer is gives kept =
+      let same : o .answer ≡ answer = λ i. gives i .answer in
+      record {
+        admits = λ e. absurd (omega arith);
+        acts = λ e. absurd (omega arith);
+        does = λ e. absurd (omega arith);
+        withdraws = λ e. absurd (omega arith);
+        checks = λ e. absurd (omega arith);
+        walks = λ _. (
+          subst (λ (a : Answer). Walks b before after a) (sym same) kept,
+          gives ∙ (λ i. outcomeOf b (sym same i)),
+        );
+        none = λ _ other. absurd (other is);
       }
 
   pub made-none :
       (r .kind ≡ 0 → ⊥) → (r .kind ≡ 1 → ⊥) → (r .kind ≡ 2 → ⊥) → (r .kind ≡ 3 → ⊥)
-      → (r .kind ≡ 4 → ⊥) → o ≡ refusedWith b answer.done → after ≡ before → Makes b r before o after
-  made-none no-admit no-act no-do no-withdraw no-check gives same =
+      → (r .kind ≡ 4 → ⊥) → (r .kind ≡ 6 → ⊥) → o ≡ refusedWith b answer.done → after ≡ before
+      → Makes b r before o after
+  made-none no-admit no-act no-do no-withdraw no-check no-walk gives same =
       record {
         admits = λ e. absurd (no-admit e);
         acts = λ e. absurd (no-act e);
         does = λ e. absurd (no-do e);
         withdraws = λ e. absurd (no-withdraw e);
         checks = λ e. absurd (no-check e);
-        none = λ _. (gives, same);
+        walks = λ e. absurd (no-walk e);
+        none = λ _ _. (gives, same);
       }

@@ -1,4 +1,4 @@
--- What a record of the kinds 0 to 4 does on the live board: the call that it asks for keeps its promise.
+-- What a record of the kinds 0 to 4, and 6, does on the live board: its call keeps its promise.
 use mathlib.Core.Path.{_≡_}
 use mathlib.Core.Bool.{false}
 use mathlib.Core.List.{List}
@@ -13,6 +13,7 @@ use Rattle.requests.specs.declared.AskDo.{AskDo}
 use Rattle.requests.specs.declared.AskWithdraw.{AskWithdraw}
 use Rattle.outcomes.specs.declared.Outcome.{Outcome}
 use Rattle.outcomes.specs.Outcomes.{Flagged, refusedWith}
+use Rattle.plain.specs.Walks.{Walks}
 use Rattle.admit.specs.Admits.{Admits}
 use Rattle.act.specs.ActsNow.{ActsNow}
 use Rattle.do_duty.specs.Does.{Does}
@@ -65,4 +66,6 @@ pub record Makes (b : Board) (r : Record) (before : List ℕ) (o : Outcome) (aft
   pub withdraws :
       r .kind ≡ 3 → Withdraws b before (askWithdraw r) (o .answer) (o .board) after × Flagged o
   pub checks : r .kind ≡ 4 → Checked b before after (o .answer) × (o ≡ outcomeOf b (o .answer))
-  pub none : 4 < r .kind → (o ≡ refusedWith b answer.done) × (after ≡ before)
+  pub walks : r .kind ≡ 6 → Walks b before after (o .answer) × (o ≡ outcomeOf b (o .answer))
+  pub none :
+      4 < r .kind → (r .kind ≡ 6 → ⊥) → (o ≡ refusedWith b answer.done) × (after ≡ before)

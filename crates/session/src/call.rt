@@ -89,5 +89,8 @@ pub fn called(b: Board, r: Record, list: &mut [u32]) -> Outcome
     if r.kind == crate::CHECK {
         return outcome_of(b, verdict::check(b, list));
     }
+    if r.kind == crate::WALK {
+        return outcome_of(b, plain::walk(b, list));
+    }
     outcomes::refused(b, Answer::DONE)
 }

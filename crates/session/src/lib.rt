@@ -17,7 +17,7 @@ pub const SIZE: usize = 32;
 // The longest list that is lent to a call.
 pub const LENT: usize = 256;
 
-// The kinds of records; those between save and poke, and those above poke, are no calls.
+// The kinds of records; those between walk and poke, and those above poke, are no calls.
 pub const ADMIT: u16 = 0;
 
 pub const ACT: u16 = 1;
@@ -29,6 +29,8 @@ pub const WITHDRAW: u16 = 3;
 pub const CHECK: u16 = 4;
 
 pub const SAVE: u16 = 5;
+
+pub const WALK: u16 = 6;
 
 pub const POKE: u16 = 9;
 

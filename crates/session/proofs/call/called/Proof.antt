@@ -1,7 +1,15 @@
 -- `called` meets its contract: the kind decides which call is made, and that call keeps its promise.
 use mathlib.Core.Path.{refl}
 use borrow.Author.Needs.{needs}
-use Rattle.session.proofs.Making.{made-admit, made-act, made-do, made-withdraw, made-check, made-none}
+use Rattle.session.proofs.Making.{
+  made-admit,
+  made-act,
+  made-do,
+  made-withdraw,
+  made-check,
+  made-walk,
+  made-none,
+}
 use Rattle.session.proofs.call.called.Statement.{statement}
 use Rattle.session.proofs.call.called.Tie as tie
 
@@ -100,19 +108,42 @@ returns-5 c =
     made-check (s .b) (s .r) (s .list .now) _ (c .outcome-of .result) (call .check .result) (test .if5 .taken)
     (c .outcome-of .ensures) (call .check .ensures)
 
-refused-requires : tie.Need-refused-requires
-refused-requires c κs = search needs
+walk-requires : tie.Need-walk-requires
+walk-requires c κs = search needs
+
+outcome-of-requires-2 : tie.Need-outcome-of-requires-2
+outcome-of-requires-2 c κs = search needs
+
+same-length-5 : tie.Need-same-length-5
+same-length-5 c = search needs
 
 returns-6 : tie.Need-returns-6
 returns-6 c =
-    let fifth = c .before in
+    let call = c .before .before .before in
+    let test = call .before .before in
+    let fifth = test .before .before in
+    let fourth = fifth .before .before in
+    let third = fourth .before .before in
+    let second = third .before .before in
+    let first = second .before .before in
+    let s = first .before .before .before .args in
+    made-walk (s .b) (s .r) (s .list .now) _ (c .outcome-of2 .result) (call .walk .result) (test .if6 .taken)
+    (c .outcome-of2 .ensures) (call .walk .ensures)
+
+refused-requires : tie.Need-refused-requires
+refused-requires c κs = search needs
+
+returns-7 : tie.Need-returns-7
+returns-7 c =
+    let sixth = c .before in
+    let fifth = sixth .before .before in
     let fourth = fifth .before .before in
     let third = fourth .before .before in
     let second = third .before .before in
     let first = second .before .before in
     let s = first .before .before .before .args in
     made-none (s .b) (s .r) (s .list .now) _ (c .refused .result) (first .if1 .left) (second .if2 .left)
-    (third .if3 .left) (fourth .if4 .left) (fifth .if5 .left) (c .refused .ensures) refl
+    (third .if3 .left) (fourth .if4 .left) (fifth .if5 .left) (sixth .if6 .left) (c .refused .ensures) refl
 
 pub called-spec : {M : Type 1} → statement M
 called-spec =
@@ -137,5 +168,9 @@ called-spec =
     outcome-of-requires
     same-length-4
     returns-5
+    walk-requires
+    outcome-of-requires-2
+    same-length-5
+    returns-6
     refused-requires
-    returns-6)
+    returns-7)
