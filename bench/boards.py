@@ -292,7 +292,7 @@ def random_small(dice):
     for kind in (GRANT, REVOKE):
         for role in range(roles):
             if dice.random() < 0.8:
-                wanted, barred = (1 << dice.randrange(roles) if dice.random() < 0.3 else 0 for _ in range(2))
+                wanted, barred = (dice.getrandbits(roles) & dice.getrandbits(roles) for _ in range(2))
                 board.rules[kind, role] = (dice.choice((0, dice.randrange(roles))), wanted, barred)
     for _ in range(dice.randrange(7)):
         action = dice.randrange(4)

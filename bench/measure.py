@@ -1,5 +1,5 @@
-"""measure.py FOLDER: measures every call on every board with the two programs in the folder, and prints the
-tables. The last line is `worst ratio X.XX`."""
+"""measure.py FOLDER [compare]: measures every call on every board with the two programs in the folder, and
+prints the tables. The last line is `worst ratio X.XX`. With `compare` only random calls are compared."""
 import random
 import sys
 
@@ -155,11 +155,15 @@ def small_boards():
 
 
 def main():
-    folder = sys.argv[1]
+    folder, words = sys.argv[1], sys.argv[2:]
+    if words not in ([], ['compare']):
+        sys.exit('bench: the word is compare, or none')
     bench = Bench(folder)
     say('comparing random calls')
     print('# Speed of the library beside plain Rust')
     random_jobs.compare(bench.proved, bench.plain)
+    if words:
+        return
     bench.put_back(boards.worst())
     print('\n## Full boards\n\nAll counts at their limits; admit is to the same board without its last duty.')
     full = full_boards(bench)

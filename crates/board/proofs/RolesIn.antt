@@ -1,6 +1,6 @@
--- Which roles `rolesIn` lists: just those of the set below the limit. Elsewhere `rolesIn` stays shut:
--- this is all that is used of it.
-use mathlib.Core.Path.{_≡_}
+-- Which roles `rolesIn` lists: just those of the set below the limit, and none of the empty set. Elsewhere
+-- `rolesIn` stays shut: this is all that is used of it.
+use mathlib.Core.Path.{_≡_, refl}
 use mathlib.Core.Logic.{_↔_, ⊎-elim}
 use mathlib.Core.Bool.{true}
 use mathlib.Core.List.{
@@ -45,3 +45,7 @@ roles-mem set q = (
   λ m. let r = keep-mem (inSet set) (below maxRoles) m in (mem-below maxRoles q (r .0), r .1),
   λ t. keep-in (inSet set) (below-mem maxRoles q (t .0)) (t .1),
 )
+
+pub no-roles : rolesIn 0 ≡ []
+unfolding rolesIn
+no-roles = refl

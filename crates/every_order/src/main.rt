@@ -115,9 +115,14 @@ fn is_right_board(s: &[u8], number: u8, b: Board) -> bool {
     }
 }
 
-// Ask the board about a file that is to have this number.
+// Ask the board about a file that is to have this number. The board that is lent to the call is not the
+// smallest, so that a refusal has to make it so.
 fn ask(s: &[u8], number: u8, list: &mut [u32]) -> Told {
-    let opened = calls::open(s, list);
+    let lent = Board {
+        clock: 1,
+        ..Board::smallest()
+    };
+    let opened = lent_once::open(lent, s, list);
     let answer = opened.answer;
     let serial = answer.serial;
     let b = opened.board;

@@ -29,7 +29,7 @@ use Rattle.acts.proofs.Laws.{changed-holdings, changed-length, holdings-view}
 use Rattle.plain.specs.Walks.{firstFailingOf}
 use Rattle.plain.specs.Walking.{setsWorld, walked}
 
-same-found :
+pub same-found :
     {A B : Type 0} {f g : A → Option B} (l : List A) → ((x : A) → Mem x l → f x ≡ g x)
     → firstFound f l ≡ firstFound g l
 same-found [] e = refl

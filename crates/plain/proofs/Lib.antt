@@ -1,5 +1,5 @@
-pub mod Turns
 pub mod Found
+pub mod Turns
 pub mod Written
 pub mod Answered
 pub mod Settled

@@ -22,6 +22,7 @@ use Rattle.board.specs.View.{view}
 use Rattle.board.specs.Windows.{whollyBefore}
 use Rattle.after.specs.Boards.{actedBoard, withdrawnBoard, didBoard}
 use Rattle.plain.specs.Walking.{setsWorld, walked, written, told}
+use Rattle.plain.proofs.Found.{same-found}
 
 module _ (b : Board) (left : ℕ) where
   abbrev pool : List Duty
@@ -76,13 +77,6 @@ done-walks b left k d =
     firstFailing (setsWorld (view b .permissions) (view b .rules)) k (changed (b .holdings) (d .what)) l)
     (take-append-seam (withoutSerial (d .serial .0) (view b .duties)) _)
 
--- ---- the first that is found
-
-module _ {A B : Type 0} {f g : A → Option B} where
-  same-found : ((x : A) → f x ≡ g x) → (l : List A) → firstFound f l ≡ firstFound g l
-  same-found e [] = refl
-  same-found e (x ∷ l) = rw (e x, same-found e l)
-
 -- ---- the loop
 
 -- what is told of one list and one order is told of the same
@@ -110,11 +104,11 @@ module _ {b : Board} {left : ℕ} {before : List ℕ} where
       go zero more = absurd (more refl)
       go (suc k) more =
           same-found
-          (λ d.
+          (keep (comesNext b left) (view b .duties))
+          (λ d m.
           ap
           (λ (o : Option (List Duty)). cond (permittedIn b left d) (inFront d o) (some (d ∷ [])))
           (sym (one k d)))
-          (keep (comesNext b left) (view b .duties))
 
   module _
       {now : List ℕ} {i : ℕ} (tried : Tried b left before now i) (h : i < length (view b .duties))

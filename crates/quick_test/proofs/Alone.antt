@@ -40,7 +40,7 @@ use Rattle.board.specs.Permitted.{
   byPermission,
   byRule,
 }
-use Rattle.board.proofs.RolesIn.{roles-mem}
+use Rattle.board.proofs.RolesIn.{roles-mem, no-roles}
 use Rattle.asks.specs.Asks.{inOneForm}
 use Rattle.quick_test.specs.Tests.{most, least, canBeMet}
 use Rattle.quick_test.proofs.MostAndLeast.{wrong-most, wrong-least}
@@ -88,10 +88,6 @@ none-each wrong right held user (q ∷ roles) f =
     (λ (a b : Bool). a && b)
     (f q (here refl))
     (none-each wrong right held user roles (λ r m. f r (there m)))
-
-pub no-roles : rolesIn 0 ≡ []
-unfolding rolesIn
-no-roles = refl
 
 only-wanted : (set wanted : ℕ) → meetsSets set wanted 0 ≡ all (inSet set) (rolesIn wanted)
 only-wanted set wanted = rw no-roles (and-yes (all (inSet set) (rolesIn wanted)))

@@ -25,11 +25,10 @@ use Rattle.board.specs.declared.Asked.{Asked}
 use Rattle.board.specs.declared.Asked.the-variants.{Unruled, Role, Meets}
 use Rattle.board.specs.Limits.{maxRoles}
 use Rattle.board.specs.Permitted.{Holding, rolesIn, each, needs}
-use Rattle.board.proofs.RolesIn.{roles-mem}
+use Rattle.board.proofs.RolesIn.{roles-mem, no-roles}
 use Rattle.asks.specs.declared.Ask.{Ask}
 use Rattle.asks.specs.Asks.{inOneForm}
 use Rattle.quick_test.specs.Tests.{needsHeld, needsFree}
-use Rattle.quick_test.proofs.Alone.{no-roles}
 
 -- it is asked that this holding is held, or that it is not
 abbrev pub asksFor : ℕ → Ask → Holding × Bool → Bool

@@ -24,15 +24,12 @@ use Rattle.board.specs.declared.Asked.the-variants.{Unruled, Role, Meets}
 use Rattle.board.specs.declared.Duty.{Duty}
 use Rattle.board.specs.Green.{worldOf}
 use Rattle.board.specs.Limits.{maxUsers, maxRoles}
-use Rattle.board.specs.Permitted.{heldIn, rolesIn, askedFor, needs, changed}
+use Rattle.board.specs.Permitted.{heldIn, askedFor, needs, changed}
 use Rattle.board.specs.View.{View}
+use Rattle.board.proofs.RolesIn.{no-roles}
 use Rattle.trails.specs.Walking.{Walk, meetsAsk, doOne, doAll, setOut, trailOf, InRange, serials}
 
 -- ---- what is asked in one form is met where the needs are
-
-no-roles : rolesIn 0 ≡ []
-unfolding rolesIn
-no-roles = refl
 
 nothing-asked : (set : ℕ) → meetsSets set 0 0 ≡ true
 nothing-asked set = rw no-roles

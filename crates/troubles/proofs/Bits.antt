@@ -1,7 +1,6 @@
 -- What a duty sets, as sets of roles: the tests and steps over roles (specs/Tests) are those over whole sets.
 use mathlib.Core.Path.{_≡_, refl, sym, ap, _∙_}
 use mathlib.Core.Bool.{Bool, true, false, not, _&&_, _||_, cond}
-use mathlib.Core.List.{[]}
 use Prim.Native.Nat.{ℕ}
 use lib.Bits.{bitAnd, bitOr, bitXor, or-zero-r, or-zero-l, xor-zero-r, and-zero-r}
 use lib.Dec.{eqb, ltb}
@@ -13,7 +12,7 @@ use Rattle.acts.specs.Meets.{meetsSets}
 use Rattle.asks.specs.declared.Ask.{Ask}
 use Rattle.board.specs.declared.What.{What}
 use Rattle.board.specs.declared.What.the-variants.{Grant, Revoke, Use}
-use Rattle.board.specs.Permitted.{rolesIn}
+use Rattle.board.proofs.RolesIn.{no-roles}
 use Rattle.troubles.specs.Setting.{userOf, grantsOf, revokesOf, hasRole, isAgainst}
 use Rattle.quick_test.specs.Tests.{granted, revoked, needsOpposite, undoes}
 use Rattle.quick_test.proofs.Mending.{and-false}
@@ -126,10 +125,6 @@ undoes-is (Revoke target role) (Use action object) =
 undoes-is (Use action object) other = sym (and-false (eqb 0 (userOf other)))
 
 -- ---- no role at all
-
-no-roles : rolesIn 0 ≡ []
-unfolding rolesIn
-no-roles = refl
 
 -- a set has every wanted role and no barred one where none is wanted or barred
 pub nothing-asked : (set : ℕ) → true ≡ meetsSets set 0 0
