@@ -63,7 +63,7 @@ pub fn is_held_back(duties: [Duty; Board::DUTIES], n: usize, d: Duty) -> bool
     false
 }
 
-// The first n duties but the one with the serial, closed up; then the rest of the room is filled.
+// The first n duties but the one with the serial, closed up in place; then the rest of the room is filled.
 pub fn without_serial(duties: [Duty; Board::DUTIES], n: usize, serial: Serial) -> Rest
     ensures { λ r. ⌜ (r .duties ≡ padded noDuty maxDuties (withoutSerial (serial .0) (take n duties)))
         × (r .count ≡ length (withoutSerial (serial .0) (take n duties))) ⌝ }
@@ -72,7 +72,7 @@ pub fn without_serial(duties: [Duty; Board::DUTIES], n: usize, serial: Serial) -
     let mut count: u16 = 0;
     let mut i: usize = 0;
     while (i < n) & (i < Board::DUTIES) {
-        let d = duties[i];
+        let d = out[i];
         if !has_serial(d, serial) {
             let at = count as usize;
             out[at] = d;

@@ -21,11 +21,11 @@ abbrev stays : ℕ → Duty → Bool
 stays serial d = not (named serial d)
 
 abbrev Inv-loop : tie.InvT-loop
-Inv-loop n serial duties out₀ count₀ i₀ out count i =
-    (i ≤ n) × ((i ≤ maxDuties) × ClosedUp (stays (serial .0)) maxDuties duties out count i)
+Inv-loop n serial out₀ count₀ i₀ out count i =
+    (i ≤ n) × ((i ≤ maxDuties) × ClosedUp (stays (serial .0)) maxDuties out₀ out count i)
 
 abbrev μ-loop : tie.MeasureT-loop
-μ-loop n serial duties out₀ count₀ i₀ out count i = n - i
+μ-loop n serial out₀ count₀ i₀ out count i = n - i
 
 abbrev Inv-loop2 : tie.InvT-loop2
 Inv-loop2 n out₀ count i filler k₀ out k = FilledUp filler maxDuties count out₀ out k
@@ -37,21 +37,26 @@ abbrev μ-loop2 : tie.MeasureT-loop2
 within :
     (c : tie.In-loop Inv-loop μ-loop Inv-loop2 μ-loop2) →
     let s = c .before .before .args in
-    (c .before .loop .i < min (s .n) (length (s .t1))) × (length (s .t1) ≡ maxDuties)
+    (c .before .loop .i < min (s .n) (length (s .duties))) × (length (s .duties) ≡ maxDuties)
 within c =
     let s = c .before .before .args in
-    let long : length (s .t1) ≡ maxDuties = search needs in
-    (in-turn (s .t1) (s .n) (c .before .loop .i) long (c .loop-test .taken), long)
+    let long : length (s .duties) ≡ maxDuties = search needs in
+    (in-turn (s .duties) (s .n) (c .before .loop .i) long (c .loop-test .taken), long)
 
 -- at the end of the first loop the first i duties are the first n
 same :
     (c : tie.After-loop Inv-loop μ-loop Inv-loop2 μ-loop2) →
-    let s = c .before .before .args in take (c .before .loop .i) (s .t1) ≡ take (s .n) (s .t1)
+    let s = c .before .before .args in take (c .before .loop .i) (s .duties) ≡ take (s .n) (s .duties)
 same c =
     let s = c .before .before .args in
     let l = c .before .loop in
-    let long : length (s .t1) ≡ maxDuties = search needs in
-    same-first (s .t1) (l .i) (s .n) (l .inv .0) (at-end (s .t1) (s .n) (l .i) long (c .loop-test .left))
+    let long : length (s .duties) ≡ maxDuties = search needs in
+    same-first
+    (s .duties)
+    (l .i)
+    (s .n)
+    (l .inv .0)
+    (at-end (s .duties) (s .n) (l .i) long (c .loop-test .left))
 
 -- ---- the needs
 
