@@ -1,3 +1,3 @@
-pub mod RoleByRole
+pub mod WholeSets
 pub mod RuleNeeds
 pub mod Laws

@@ -126,22 +126,12 @@ fn holds(holdings: &[u32; Board::USERS], user: u16, role: u16) -> bool
     roles::holds(held_by(holdings, user), role)
 }
 
-// Whether a set has every wanted role and no barred one: at once where none is named, else role by role.
+// Whether a set has every wanted role and no barred one: what it has in common with the wanted roles is all
+// of them, and with the barred ones nothing.
 pub fn meets(set: u32, wanted: u32, barred: u32) -> bool
     ensures { λ r. ⌜ r ≡ meetsSets set wanted barred ⌝ }
 {
-    if (wanted == 0) & (barred == 0) {
-        return true;
-    }
-    let mut role: u16 = 0;
-    while (role as usize) < Board::ROLES {
-        let held = roles::holds(set, role);
-        if (roles::holds(wanted, role) & !held) | (roles::holds(barred, role) & held) {
-            return false;
-        }
-        role += 1;
-    }
-    true
+    (set & wanted == wanted) & (set & barred == 0)
 }
 
 // Whether the holdings meet what is asked of the doer.

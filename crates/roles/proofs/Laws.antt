@@ -1,13 +1,14 @@
 -- What a set of roles holds once a role was put in or taken out: that role (or not), and of the others just
--- those that it held before; and no role at or above a limit comes in. Bit by bit: of a union, a difference,
--- and of a number with one bit.
+-- those that it held before; and no role at or above a limit comes in. Bit by bit: of what two sets have in
+-- common, a union, a difference, and of a number with one bit.
 use mathlib.Core.Path.{_≡_, refl, ap, _∙_}
 use mathlib.Core.Bool.{Bool, true, false, cond}
-use Prim.Native.Nat.{ℕ, zero, suc, _+_, _-_, _*_, _/_, _%_, _^_, _≤_, _<_, max}
+use Prim.Native.Nat.{ℕ, zero, suc, _+_, _-_, _*_, _/_, _%_, _^_, _≤_, _<_, min, max}
 use native.Mathlib.Nat.{div-eq-of-lt, pow-suc}
 use native.Mathlib.Decide.{decLt}
 use native.Mathlib.Omega.{arith}
-use lib.Bits.{bitOr, bitXor, differ, or-shr, xor-shr, or-step, xor-step, or-lt, xor-lt}
+use lib.Bits.{bitAnd, bitOr, bitXor, differ, and-shr, or-shr, xor-shr, and-step, or-step, xor-step}
+use lib.Bits.{or-lt, xor-lt}
 use lib.Dec.{eqb, ltb}
 use lib.Pow.{pow-lt, pow-mono, pow-add, shl-shr, shl-exact}
 use borrow.Author.Tests.{ne-eqb, lt-ltb}
@@ -17,7 +18,7 @@ use Rattle.roles.specs.Roles.{width, inSet, withRole, withoutRole}
 abbrev pub bit : ℕ → ℕ → ℕ
 bit set i = set / 2 ^ i % 2
 
--- ---- every bit of a union and of a difference
+-- ---- every bit of what two sets have in common, of a union and of a difference
 
 or-low : (a b : ℕ) → bitOr a b % 2 ≡ max (a % 2) (b % 2)
 or-low a b = omega (arith, or-step a b)
@@ -31,6 +32,9 @@ differ-mod (suc (suc x)) y hx hy = absurd (omega arith)
 
 xor-low : (a b : ℕ) → bitXor a b % 2 ≡ (a % 2 + b % 2) % 2
 xor-low a b = omega (arith, xor-step a b, differ-mod (a % 2) (b % 2) (omega arith) (omega arith))
+
+pub and-bit : (a b i : ℕ) → bit (bitAnd a b) i ≡ min (bit a i) (bit b i)
+and-bit a b i = ap (λ (x : ℕ). x % 2) (and-shr a b i) ∙ omega (arith, and-step (a / 2 ^ i) (b / 2 ^ i))
 
 or-bit : (a b i : ℕ) → bit (bitOr a b) i ≡ max (bit a i) (bit b i)
 or-bit a b i = ap (λ (x : ℕ). x % 2) (or-shr a b i) ∙ or-low (a / 2 ^ i) (b / 2 ^ i)

@@ -1,17 +1,20 @@
 -- Whole sets at once. A set joined with the set of one role is the set with that role, and less that set it
 -- is the set without the role; the set of one role has something in common with a set just where that set has
--- the role.
+-- the role. What a set has in common with another is the whole of the other just where the set has every role
+-- of the other, and nothing just where it has none of them.
 use mathlib.Core.Path.{_≡_, refl, sym, ap, _∙_}
+use mathlib.Core.Logic.{_↔_}
 use mathlib.Core.Bool.{Bool, true, false, not, _&&_, cond}
-use Prim.Native.Nat.{ℕ, zero, suc, _+_, _-_, _*_, _^_, _<_}
-use native.Mathlib.Nat.{zero-div}
+use Prim.Native.Nat.{ℕ, zero, suc, _+_, _-_, _*_, _/_, _^_, _<_, min}
+use native.Mathlib.Nat.{zero-div, pow-suc}
 use native.Mathlib.Omega.{arith}
 use lib.Bits.{bitAnd, bitOr, bitXor, or-zero-l, or-zero-r, xor-zero-r, and-zero-l, and-comm, and-high}
+use lib.Bits.{and-le-r}
 use lib.Dec.{eqb, ltb}
-use lib.Pow.{pow-add, pow-pos}
+use lib.Pow.{pow-add, pow-pos, shr-shr}
 use borrow.Author.Tests.{eqb-true, eqb-false, eq-eqb, ne-eqb, ltb-true}
 use Rattle.roles.specs.Roles.{width, inSet, withRole, withoutRole}
-use Rattle.roles.proofs.Laws.{bit, with-same, with-other}
+use Rattle.roles.proofs.Laws.{bit, and-bit, with-same, with-other}
 
 -- ---- one role more, and one less
 
@@ -82,3 +85,68 @@ common-ones a b = common-one (withRole 0 b) a ∙ ap not (go (ltb a width) refl)
     go : (t : Bool) → ltb a width ≡ t → t && inSet (withRole 0 b) a ≡ t && eqb b a
     go true e = only-one a b (ltb-true a width e)
     go false e = refl
+
+-- ---- all of a set, and none of it
+
+-- two sets with the same bits are the same
+same-bits : (n a b : ℕ) → a < 2 ^ n → b < 2 ^ n → ((q : ℕ) → q < n → bit a q ≡ bit b q) → a ≡ b
+same-bits zero a b h k same = omega arith
+same-bits (suc n) a b h k same =
+    let high = same-bits n (a / 2) (b / 2) (omega (arith, pow-suc 2 n)) (omega (arith, pow-suc 2 n)) rest in
+    omega (arith, same 0 (omega arith), high)
+  where
+    rest : (q : ℕ) → q < n → bit (a / 2) q ≡ bit (b / 2) q
+    rest q l = rw (shr-shr a 1 q, shr-shr b 1 q) (same (1 + q) (omega arith))
+
+-- of a bit x of the one and y of the other: x is there where y is, and x is not there where y is
+all-there : (x y : ℕ) → y < 2 → (eqb y 1 ≡ true → eqb x 1 ≡ true) → min x y ≡ y
+all-there x zero k f = omega arith
+all-there x (suc y) k f = let e = eqb-true x 1 (f (eq-eqb (suc y) 1 (omega arith))) in omega arith
+
+none-there : (x y : ℕ) → x < 2 → y < 2 → (eqb y 1 ≡ true → eqb x 1 ≡ false) → min x y ≡ 0
+none-there x zero h k f = omega arith
+none-there x (suc y) h k f = let e = eqb-false x 1 (f (eq-eqb (suc y) 1 (omega arith))) in omega arith
+
+module _ (n set other : ℕ) (fits : other < 2 ^ n) where
+  -- what the two have in common is a set whose bits are known
+  common-is :
+      (c : ℕ) → c < 2 ^ n → ((q : ℕ) → q < n → min (bit set q) (bit other q) ≡ bit c q)
+      → eqb (bitAnd set other) c ≡ true
+  common-is c h f =
+      let below : bitAnd set other < 2 ^ n = omega (arith, and-le-r set other) in
+      eq-eqb _ _ (same-bits n (bitAnd set other) c below h (λ q l. and-bit set other q ∙ f q l))
+
+  common-bit : (c q : ℕ) → eqb (bitAnd set other) c ≡ true → min (bit set q) (bit other q) ≡ bit c q
+  common-bit c q e =
+      sym (and-bit set other q) ∙ ap (λ (x : ℕ). bit x q) (eqb-true (bitAnd set other) c e)
+
+  pub has-all :
+      eqb (bitAnd set other) other ≡ true
+      ↔ ((q : ℕ) → q < n → inSet other q ≡ true → inSet set q ≡ true)
+  has-all = (
+    λ e q h m. held q (eqb-true (bit other q) 1 m) (common-bit other q e),
+    λ f. common-is other fits (λ q l. everything q (f q l)),
+  )
+    where
+      held : (q : ℕ) → bit other q ≡ 1 → min (bit set q) (bit other q) ≡ bit other q → inSet set q ≡ true
+      held q b c = eq-eqb (bit set q) 1 (omega arith)
+
+      everything :
+          (q : ℕ) → (inSet other q ≡ true → inSet set q ≡ true) → min (bit set q) (bit other q) ≡ bit other q
+      everything q f = all-there (bit set q) (bit other q) (omega arith) f
+
+  pub has-none :
+      eqb (bitAnd set other) 0 ≡ true
+      ↔ ((q : ℕ) → q < n → inSet other q ≡ true → inSet set q ≡ false)
+  has-none = (
+    λ e q h m. missing q (eqb-true (bit other q) 1 m) (common-bit 0 q e),
+    λ f. common-is 0 (omega arith) (λ q l. nothing q (f q l)),
+  )
+    where
+      missing : (q : ℕ) → bit other q ≡ 1 → min (bit set q) (bit other q) ≡ bit 0 q → inSet set q ≡ false
+      missing q b c = ne-eqb (bit set q) 1 (λ s. omega (arith, zero-div (2 ^ q)))
+
+      nothing :
+          (q : ℕ) → (inSet other q ≡ true → inSet set q ≡ false) → min (bit set q) (bit other q) ≡ bit 0 q
+      nothing q f =
+          none-there (bit set q) (bit other q) (omega arith) (omega arith) f ∙ omega (arith, zero-div (2 ^ q))

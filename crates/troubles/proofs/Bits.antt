@@ -8,11 +8,9 @@ use borrow.Author.Tests.{eqb-true, eq-eqb}
 use Rattle.orders.proofs.Tests.{same-test}
 use Rattle.roles.specs.Roles.{width, inSet, withRole}
 use Rattle.roles.proofs.Whole.{join-one, less-one, common-one, common-ones}
-use Rattle.acts.specs.Meets.{meetsSets}
 use Rattle.asks.specs.declared.Ask.{Ask}
 use Rattle.board.specs.declared.What.{What}
 use Rattle.board.specs.declared.What.the-variants.{Grant, Revoke, Use}
-use Rattle.board.proofs.RolesIn.{no-roles}
 use Rattle.troubles.specs.Setting.{userOf, grantsOf, revokesOf, hasRole, isAgainst}
 use Rattle.quick_test.specs.Tests.{granted, revoked, needsOpposite, undoes}
 use Rattle.quick_test.proofs.Mending.{and-false}
@@ -123,9 +121,3 @@ undoes-is (Revoke target role) (Revoke user q) =
 undoes-is (Revoke target role) (Use action object) =
     rw (and-zero-r (withRole 0 role)) (sym (and-false (eqb target 0)))
 undoes-is (Use action object) other = sym (and-false (eqb 0 (userOf other)))
-
--- ---- no role at all
-
--- a set has every wanted role and no barred one where none is wanted or barred
-pub nothing-asked : (set : ℕ) → true ≡ meetsSets set 0 0
-nothing-asked set = rw no-roles

@@ -7,7 +7,6 @@ ghost use mathlib.Core.Bool.{true, _||_};
 ghost use mathlib.Core.List.{List};
 ghost use lib.Dec.{eqb};
 ghost use Rattle.roles.specs.Roles.{withRole};
-ghost use Rattle.acts.specs.Meets.{meetsSets};
 ghost use Rattle.board.specs.declared.Duty.{Duty};
 ghost use Rattle.troubles.specs.Setting.{setterOf, isAgainst};
 ghost use Rattle.quick_test.specs.Mends.{lastMinute, firstMend};
@@ -85,29 +84,10 @@ pub(crate) fn reach_with(reach: Reach, x: Setter, d: Duty, ask: Ask) -> Reach
     Reach { own, most, least }
 }
 
-// Whether a set has every wanted role; whether it has no barred one.
-fn has_all(set: u32, wanted: u32) -> bool
-    ensures { λ r. ⌜ r ≡ meetsSets set wanted 0 ⌝ }
-{
-    if wanted == 0 {
-        return true;
-    }
-    acts::meets(set, wanted, 0)
-}
-
-fn has_none(set: u32, barred: u32) -> bool
-    ensures { λ r. ⌜ r ≡ meetsSets set 0 barred ⌝ }
-{
-    if barred == 0 {
-        return true;
-    }
-    acts::meets(set, 0, barred)
-}
-
 // Whether what is asked can be met with what is in reach.
 pub(crate) fn can_be_met(reach: Reach, ask: Ask) -> bool
     ensures { λ r. ⌜ r ≡ metWith reach ask ⌝ }
 {
     roles::holds(reach.own, ask.actor)
-        & (has_all(reach.most, ask.wanted) & has_none(reach.least, ask.barred))
+        & (acts::meets(reach.most, ask.wanted, 0) & acts::meets(reach.least, 0, ask.barred))
 }

@@ -6,14 +6,14 @@ use Rattle.troubles.proofs.pairs.can_be_met.Tie as tie
 holds-requires : tie.Need-holds-requires
 holds-requires c κs = search needs
 
-has-all-requires : tie.Need-has-all-requires
-has-all-requires c κs = search needs
+meets-requires : tie.Need-meets-requires
+meets-requires c κs = search needs
 
-has-none-requires : tie.Need-has-none-requires
-has-none-requires c κs = search needs
+meets-requires-2 : tie.Need-meets-requires-2
+meets-requires-2 c κs = search needs
 
 returns : tie.Need-returns
-returns c = rw (c .before .before .holds .ensures, c .before .has-all .ensures, c .has-none .ensures)
+returns c = rw (c .before .before .holds .ensures, c .before .meets .ensures, c .meets2 .ensures)
 
 pub can-be-met-spec : {M : Type 1} → statement M
-can-be-met-spec = tie.close (tie.spec holds-requires has-all-requires has-none-requires returns)
+can-be-met-spec = tie.close (tie.spec holds-requires meets-requires meets-requires-2 returns)
