@@ -19,4 +19,5 @@ pub mod Lengths
 pub mod Plain
 pub mod TrailFails
 pub mod SameMembers
+pub mod Translated
 pub mod Clock
