@@ -5,7 +5,7 @@ use board::Permission;
 use board::Rule;
 use board::What;
 ghost use mathlib.Core.Path.{_≡_};
-ghost use Prim.Native.Nat.{_+_, _*_, _<_, min};
+ghost use Prim.Native.Nat.{_+_, _*_, _<_};
 ghost use lib.ListN.{getD, set, take};
 ghost use Rattle.orders.specs.Lists.{find};
 ghost use Rattle.board.specs.View.{view};
@@ -15,14 +15,6 @@ ghost use Rattle.orders.specs.Needs.{met};
 ghost use Rattle.acts.specs.Meets.{meetsSets};
 
 // ---- what is asked
-
-// The lesser of a count and the room of its array.
-fn within(count: u16, room: usize) -> usize
-    ensures { λ r. ⌜ r ≡ min count room ⌝ }
-{
-    let n = count as usize;
-    if n < room { n } else { room }
-}
 
 // An action and an object in one number, as they stand in memory, so that both are compared at once.
 fn in_one(action: u16, object: u16) -> u32
@@ -47,7 +39,7 @@ fn asked_by_use(
 ) -> Asked
     ensures { λ r. ⌜ r ≡ byPermission (find (isFor action object) (take count permissions)) ⌝ }
 {
-    let n = within(count, Board::PERMISSIONS);
+    let n = board::within(count as usize, Board::PERMISSIONS);
     let mut i: usize = 0;
     while i < n {
         let p = permissions[i];
@@ -77,7 +69,7 @@ fn asked_by_rule(
 ) -> Asked
     ensures { λ r. ⌜ r ≡ byRule target (find (governs kind role) (take count rules)) ⌝ }
 {
-    let n = within(count, Board::RULES);
+    let n = board::within(count as usize, Board::RULES);
     let mut i: usize = 0;
     while i < n {
         let r = rules[i];

@@ -33,6 +33,10 @@ inOneForm doer (Meets target rule) =
 abbrev pub askOf : View → Duty → Ask
 askOf v d = inOneForm (d .doer) (askedFor (v .permissions) (v .rules) (d .what))
 
--- these are what is asked for the first n duties, place by place
+-- these are what `asked` says is asked for the first n duties, place by place
+abbrev pub AskedBy : (Duty → Ask) → List Duty → ℕ → List Ask → Type 0
+AskedBy asked duties n asks = (i : ℕ) → i < n → getD asks i noAsk ≡ asked (getD duties i noDuty)
+
+-- these are what the permissions and rules ask for them
 abbrev pub AsksOf : View → List Duty → ℕ → List Ask → Type 0
-AsksOf v duties n asks = (i : ℕ) → i < n → getD asks i noAsk ≡ askOf v (getD duties i noDuty)
+AsksOf v = AskedBy (askOf v)

@@ -32,13 +32,6 @@ pub struct Ask {
 
 // ---- keys
 
-// The lesser of a count and the room of its array.
-fn within(count: usize, room: usize) -> usize
-    ensures { λ r. ⌜ r ≡ min count room ⌝ }
-{
-    if count < room { count } else { room }
-}
-
 // Two numbers in one, the first above the second.
 fn key(first: u16, second: u16) -> u32
     ensures { λ r. ⌜ r ≡ keyOf first second ⌝ }
@@ -80,7 +73,7 @@ fn rule_keys(rules: [Rule; Board::RULES], n: usize) -> [u32; Board::RULES]
 }
 
 // The place, among the first n keys, that the key of the two numbers has or would have, where the keys rise.
-fn place_of(keys: &[u32], n: usize, first: u16, second: u16) -> usize
+fn key_place(keys: &[u32], n: usize, first: u16, second: u16) -> usize
     requires { ⌜ n ≤ length (now keys) ⌝ }
     ensures { λ r. ⌜ Halved (now (keys .entry)) n (keyOf first second) r ⌝ }
 {
@@ -151,9 +144,9 @@ fn by_rule(r: Rule, kind: u16, target: u16, role: u16) -> Ask
 pub fn asks_of(b: Board, duties: [Duty; Board::DUTIES], n: usize) -> [Ask; Board::DUTIES]
     ensures { λ r. ⌜ (good b ≡ true → AsksOf (view b) duties (min n maxDuties) r) ⌝ }
 {
-    let permissions = within(b.counts.permissions as usize, Board::PERMISSIONS);
-    let rules = within(b.counts.rules as usize, Board::RULES);
-    let last = within(n, Board::DUTIES);
+    let permissions = board::within(b.counts.permissions as usize, Board::PERMISSIONS);
+    let rules = board::within(b.counts.rules as usize, Board::RULES);
+    let last = board::within(n, Board::DUTIES);
     let actions = permission_keys(b.permissions, permissions);
     let kinds = rule_keys(b.rules, rules);
     let none = unruled();
@@ -165,19 +158,19 @@ pub fn asks_of(b: Board, duties: [Duty; Board::DUTIES], n: usize) -> [Ask; Board
         let what = d.what;
         match what {
             What::Grant { target, role } => {
-                let at = place_of(&kinds, rules, 0, role);
+                let at = key_place(&kinds, rules, 0, role);
                 if at < rules {
                     ask = by_rule(b.rules[at], 0, target, role);
                 }
             }
             What::Revoke { target, role } => {
-                let at = place_of(&kinds, rules, 1, role);
+                let at = key_place(&kinds, rules, 1, role);
                 if at < rules {
                     ask = by_rule(b.rules[at], 1, target, role);
                 }
             }
             What::Use { action, object } => {
-                let at = place_of(&actions, permissions, action, object);
+                let at = key_place(&actions, permissions, action, object);
                 if at < permissions {
                     ask = by_permission(b.permissions[at], action, object, d.doer);
                 }

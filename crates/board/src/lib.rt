@@ -1,6 +1,7 @@
 // The board: who holds which role, permissions, rules and duties, its limits, its filler and the smallest
-// board; and what a call answers.
+// board; what a call answers; and how many of a count stand in the room that there is.
 ghost use mathlib.Core.Path.{_≡_};
+ghost use Prim.Native.Nat.{min};
 ghost use Rattle.board.specs.Answers.{plainAnswer, doneAnswer, writtenAnswer, redAnswer};
 ghost use Rattle.board.specs.Filler.{noPermission, noRule, noDuty, smallestBoard};
 
@@ -261,4 +262,11 @@ impl Answer {
             length,
         }
     }
+}
+
+// The lesser of a count and the room of its array.
+pub fn within(count: usize, room: usize) -> usize
+    ensures { λ r. ⌜ r ≡ min count room ⌝ }
+{
+    if count < room { count } else { room }
 }

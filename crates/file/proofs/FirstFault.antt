@@ -23,39 +23,39 @@ use Rattle.file.specs.Reads.{recordChecks}
 use Rattle.file.specs.Records.{holdingAt, permissionAt, ruleAt, ruleSpare, dutyAt}
 use Rattle.file.specs.Records.{secondFitsAt, isAbove}
 use Rattle.file.specs.Records.{holdingFault, permissionFault, ruleFault, dutyFault}
-use Rattle.file.specs.Records.{faultOf, faultNumbers, faults, orElse, firstOne, firstFault}
+use Rattle.file.specs.Records.{faultOf, faultNumbers, faults, orLater, firstOne, firstFault}
 
 -- ---- the first fault among numbered ones
 
 -- the first of those below n; 0 where none is a fault
 abbrev pub firstIn : (ℕ → ℕ) → ℕ → ℕ
 firstIn fault zero = 0
-firstIn fault (suc n) = orElse (firstIn fault n) (fault n)
+firstIn fault (suc n) = orLater (firstIn fault n) (fault n)
 
-or-else-assoc : (a b c : ℕ) → orElse (orElse a b) c ≡ orElse a (orElse b c)
-or-else-assoc zero b c = refl
-or-else-assoc (suc a) b c = refl
+or-later-assoc : (a b c : ℕ) → orLater (orLater a b) c ≡ orLater a (orLater b c)
+or-later-assoc zero b c = refl
+or-later-assoc (suc a) b c = refl
 
-or-else-none : (a : ℕ) → orElse a 0 ≡ a
-or-else-none zero = refl
-or-else-none (suc a) = refl
+or-later-none : (a : ℕ) → orLater a 0 ≡ a
+or-later-none zero = refl
+or-later-none (suc a) = refl
 
 -- a fault that is one is the first
-or-else-first : (a b : ℕ) → (a ≡ 0 → ⊥) → orElse a b ≡ a
-or-else-first zero b h = absurd (h refl)
-or-else-first (suc a) b h = refl
+or-later-first : (a b : ℕ) → (a ≡ 0 → ⊥) → orLater a b ≡ a
+or-later-first zero b h = absurd (h refl)
+or-later-first (suc a) b h = refl
 
-or-else-zero : (a b : ℕ) → orElse a b ≡ 0 → (a ≡ 0) × (b ≡ 0)
-or-else-zero zero b e = (refl, e)
-or-else-zero (suc a) b e = absurd (omega arith)
+or-later-zero : (a b : ℕ) → orLater a b ≡ 0 → (a ≡ 0) × (b ≡ 0)
+or-later-zero zero b e = (refl, e)
+or-later-zero (suc a) b e = absurd (omega arith)
 
-or-else-keeps : (P : ℕ → Type 0) (a b : ℕ) → P a → P b → P (orElse a b)
-or-else-keeps P zero b p q = q
-or-else-keeps P (suc a) b p q = p
+or-later-keeps : (P : ℕ → Type 0) (a b : ℕ) → P a → P b → P (orLater a b)
+or-later-keeps P zero b p q = q
+or-later-keeps P (suc a) b p q = p
 
-first-append : (a b : List ℕ) → firstOne (a ++ b) ≡ orElse (firstOne a) (firstOne b)
+first-append : (a b : List ℕ) → firstOne (a ++ b) ≡ orLater (firstOne a) (firstOne b)
 first-append [] b = refl
-first-append (x ∷ a) b = rw (first-append a b) (sym (or-else-assoc x (firstOne a) (firstOne b)))
+first-append (x ∷ a) b = rw (first-append a b) (sym (or-later-assoc x (firstOne a) (firstOne b)))
 
 module _ (fault : ℕ → ℕ) where
   first-below : (n : ℕ) → firstOne (map fault (below n)) ≡ firstIn fault n
@@ -65,7 +65,7 @@ module _ (fault : ℕ → ℕ) where
         map-append fault (below n) (n ∷ []),
         first-append (map fault (below n)) (fault n ∷ []),
         first-below n,
-        or-else-none (fault n),
+        or-later-none (fault n),
       )
 
   -- a turn of a loop finds none
@@ -78,17 +78,17 @@ module _ (fault : ℕ → ℕ) where
   first-is zero i h e f = absurd (omega arith)
   first-is (suc n) i h e f =
       elim (decLt i n) [
-        | yes l ↦ rw (first-is n i l e f) (or-else-first (fault i) (fault n) f)
+        | yes l ↦ rw (first-is n i l e f) (or-later-first (fault i) (fault n) f)
         | no l ↦ last (omega arith)
       ]
     where
-      last : i ≡ n → orElse (firstIn fault n) (fault n) ≡ fault i
+      last : i ≡ n → orLater (firstIn fault n) (fault n) ≡ fault i
       last q = rw (← q, e)
 
   none-below : (n i : ℕ) → firstIn fault n ≡ 0 → i < n → fault i ≡ 0
   none-below zero i e h = absurd (omega arith)
   none-below (suc n) i e h =
-      let z = or-else-zero (firstIn fault n) (fault n) e in
+      let z = or-later-zero (firstIn fault n) (fault n) e in
       elim (decLt i n) [
         | yes l ↦ none-below n i (z .0) l
         | no l ↦ (let q : i ≡ n = omega arith in rw q (z .1))
@@ -101,7 +101,7 @@ module _ (fault : ℕ → ℕ) where
   first-keeps : (P : ℕ → Type 0) → P 0 → ((i : ℕ) → P (fault i)) → (n : ℕ) → P (firstIn fault n)
   first-keeps P z each zero = z
   first-keeps P z each (suc n) =
-      or-else-keeps P (firstIn fault n) (fault n) (first-keeps P z each n) (each n)
+      or-later-keeps P (firstIn fault n) (fault n) (first-keeps P z each n) (each n)
 
 -- ---- the parts
 
@@ -114,7 +114,7 @@ partFault s part = firstIn (faultAt s part) (sizeOf (countsOf s) part)
 
 pub first-by-parts : (s : List ℕ) → firstFault s ≡ firstIn (partFault s) partCount
 unfolding faults
-first-by-parts s = simp (first-append, first-below, or-else-assoc)
+first-by-parts s = simp (first-append, first-below, or-later-assoc)
 
 -- ---- what the first fault can be
 

@@ -105,14 +105,14 @@ faults s =
     ++ (map (ruleFault s) (below (countsOf s .rules)) ++ map (dutyFault s) (below (countsOf s .duties))))
 
 -- one fault, or where it is none the other
-abbrev pub orElse : ℕ → ℕ → ℕ
-orElse zero rest = rest
-orElse (suc fault) rest = suc fault
+abbrev pub orLater : ℕ → ℕ → ℕ
+orLater zero rest = rest
+orLater (suc fault) rest = suc fault
 
 -- the first that is one; 0 where none is
 abbrev pub firstOne : List ℕ → ℕ
 firstOne [] = answer.done
-firstOne (fault ∷ rest) = orElse fault (firstOne rest)
+firstOne (fault ∷ rest) = orLater fault (firstOne rest)
 
 abbrev pub firstFault : List ℕ → ℕ
 firstFault s = firstOne (faults s)

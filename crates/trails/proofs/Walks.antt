@@ -15,11 +15,11 @@ use Rattle.orders.specs.Lists.{Mem, keep}
 use Rattle.orders.proofs.Loops.{take-mem}
 use Rattle.orders.proofs.Tests.{by-test, or-true, or-false}
 use Rattle.asks.specs.declared.Ask.{Ask}
-use Rattle.asks.specs.Asks.{noAsk}
+use Rattle.asks.specs.Asks.{noAsk, AskedBy}
 use Rattle.board.specs.declared.Duty.{Duty}
 use Rattle.board.specs.Filler.{noDuty}
 use Rattle.trails.specs.Walking.{Walk, inTrail, trailOf, doOne, doAll, setOut}
-use Rattle.trails.specs.Walking.{AsksAre, PartDone, PlaceOf, Walked}
+use Rattle.trails.specs.Walking.{PartDone, PlaceOf, Walked}
 
 -- ---- one duty, and one part after another
 
@@ -46,7 +46,7 @@ pub record Passed
   where
     pub long : length (now .1) ≡ length (start .1)
     pub same :
-        (asked : Duty → Ask) → AsksAre asked pool asks
+        (asked : Duty → Ask) → AskedBy asked pool (length pool) asks
         → doAll asked now (keep passes (drop k pool)) ≡ doAll asked start (keep passes pool)
 
 module _ {pool : List Duty} {asks : List Ask} {passes : Duty → Bool} {start : Walk × List ℕ} where
@@ -113,7 +113,7 @@ module _ (duties : List Duty) (n : ℕ) (asks : List Ask) (asked : Duty → Ask)
     ask : getD asks place noAsk ≡ asked y
 
   known :
-      AsksAre asked pool asks
+      AskedBy asked pool (length pool) asks
       → ((y z : Duty) → Mem y pool → Mem z pool → y .serial .0 ≡ z .serial .0 → y ≡ z)
       → (serial place : ℕ) → PlaceOf duties n serial place → place < n
       → (y : Duty) → Mem y pool → y .serial .0 ≡ serial → Known y place

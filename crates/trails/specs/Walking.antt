@@ -10,7 +10,7 @@ use Rattle.orders.specs.Lists.{Mem, keep}
 use Rattle.roles.specs.Roles.{inSet}
 use Rattle.acts.specs.Meets.{meetsSets}
 use Rattle.asks.specs.declared.Ask.{Ask}
-use Rattle.asks.specs.Asks.{noAsk}
+use Rattle.asks.specs.Asks.{AskedBy}
 use Rattle.board.specs.declared.Duty.{Duty}
 use Rattle.board.specs.Filler.{noDuty}
 use Rattle.board.specs.Good.{whatFits}
@@ -71,14 +71,11 @@ unfoldable pub doAll : (Duty → Ask) → Walk × List ℕ → List Duty → Wal
 doAll asked w [] = w
 doAll asked w (y ∷ l) = doAll asked (doOne (asked y) w y) l
 
--- the array says what is asked for each duty of the pool, place by place
-abbrev pub AsksAre : (Duty → Ask) → List Duty → List Ask → Type 0
-AsksAre asked pool asks = (i : ℕ) → i < length pool → getD asks i noAsk ≡ asked (getD pool i noDuty)
-
 -- those duties of the pool that pass the test were done
 abbrev pub PartDone : List Duty → List Ask → (Duty → Bool) → Walk × List ℕ → Walk × List ℕ → Type 0
 PartDone pool asks passes before after =
-    (asked : Duty → Ask) → AsksAre asked pool asks → after ≡ doAll asked before (keep passes pool)
+    (asked : Duty → Ask) → AskedBy asked pool (length pool) asks
+    → after ≡ doAll asked before (keep passes pool)
 
 -- a walk from these sets of roles
 abbrev pub setOut : List ℕ → List ℕ → Walk × List ℕ
@@ -104,7 +101,7 @@ serials l = map (λ (d : Duty). d .serial .0) l
 abbrev pub Walked : List Duty → List Ask → List ℕ → ℕ → ℕ → List ℕ → List ℕ → ℕ → Type 0
 Walked pool asks sets spoiler stuck before after n =
     (asked : Duty → Ask) (x d : Duty)
-    → AsksAre asked pool asks
+    → AskedBy asked pool (length pool) asks
     → ((y z : Duty) → Mem y pool → Mem z pool → y .serial .0 ≡ z .serial .0 → y ≡ z)
     → Mem x pool → x .serial .0 ≡ spoiler → Mem d pool → d .serial .0 ≡ stuck
     → let w = doAll asked (setOut sets before) (trailOf pool x d) in (after ≡ w .1) × (n ≡ w .0 .length)

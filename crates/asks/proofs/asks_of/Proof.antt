@@ -113,11 +113,11 @@ array-copy-out-d c = search needs
 enum-known-what : tie.Need-enum-known-what Inv-loop μ-loop
 enum-known-what c = search needs
 
-slice-aggregate-place-of : tie.Need-slice-aggregate-place-of Inv-loop μ-loop
-slice-aggregate-place-of c = search needs
+slice-aggregate-key-place : tie.Need-slice-aggregate-key-place Inv-loop μ-loop
+slice-aggregate-key-place c = search needs
 
-place-of-requires : tie.Need-place-of-requires Inv-loop μ-loop
-place-of-requires c κs = search needs
+key-place-requires : tie.Need-key-place-requires Inv-loop μ-loop
+key-place-requires c κs = search needs
 
 mul-by-rule : tie.Need-mul-by-rule Inv-loop μ-loop
 mul-by-rule c = search needs
@@ -131,11 +131,11 @@ by-rule-requires c κs = search needs
 enum-known-what-2 : tie.Need-enum-known-what-2 Inv-loop μ-loop
 enum-known-what-2 c = search needs
 
-slice-aggregate-place-of-2 : tie.Need-slice-aggregate-place-of-2 Inv-loop μ-loop
-slice-aggregate-place-of-2 c = search needs
+slice-aggregate-key-place-2 : tie.Need-slice-aggregate-key-place-2 Inv-loop μ-loop
+slice-aggregate-key-place-2 c = search needs
 
-place-of-requires-2 : tie.Need-place-of-requires-2 Inv-loop μ-loop
-place-of-requires-2 c κs = search needs
+key-place-requires-2 : tie.Need-key-place-requires-2 Inv-loop μ-loop
+key-place-requires-2 c κs = search needs
 
 mul-by-rule-2 : tie.Need-mul-by-rule-2 Inv-loop μ-loop
 mul-by-rule-2 c = search needs
@@ -149,11 +149,11 @@ by-rule-requires-2 c κs = search needs
 enum-known-what-3 : tie.Need-enum-known-what-3 Inv-loop μ-loop
 enum-known-what-3 c = search needs
 
-slice-aggregate-place-of-3 : tie.Need-slice-aggregate-place-of-3 Inv-loop μ-loop
-slice-aggregate-place-of-3 c = search needs
+slice-aggregate-key-place-3 : tie.Need-slice-aggregate-key-place-3 Inv-loop μ-loop
+slice-aggregate-key-place-3 c = search needs
 
-place-of-requires-3 : tie.Need-place-of-requires-3 Inv-loop μ-loop
-place-of-requires-3 c κs = search needs
+key-place-requires-3 : tie.Need-key-place-requires-3 Inv-loop μ-loop
+key-place-requires-3 c κs = search needs
 
 mul-by-permission : tie.Need-mul-by-permission Inv-loop μ-loop
 mul-by-permission c = search needs
@@ -204,20 +204,20 @@ asks-of-spec =
     mul-d
     array-copy-out-d
     enum-known-what
-    slice-aggregate-place-of
-    place-of-requires
+    slice-aggregate-key-place
+    key-place-requires
     mul-by-rule
     element-copy-out-by-rule
     by-rule-requires
     enum-known-what-2
-    slice-aggregate-place-of-2
-    place-of-requires-2
+    slice-aggregate-key-place-2
+    key-place-requires-2
     mul-by-rule-2
     element-copy-out-by-rule-2
     by-rule-requires-2
     enum-known-what-3
-    slice-aggregate-place-of-3
-    place-of-requires-3
+    slice-aggregate-key-place-3
+    key-place-requires-3
     mul-by-permission
     element-copy-out-by-permission
     by-permission-requires

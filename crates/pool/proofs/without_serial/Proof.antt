@@ -1,5 +1,6 @@
 -- `without_serial` is right: of the first i duties those without the serial stand closed up at the start of
--- the room, and at the end the first i are the first n. Then filler stands behind them up to place k.
+-- the room, from place i on it is as it was, and at the end the first i are the first n. Then filler stands
+-- behind them up to place k.
 use mathlib.Core.Path.{_≡_, refl, sym, ap, _∙_}
 use mathlib.Core.Logic.{⊎-elim}
 use mathlib.Core.Bool.{Bool, not}

@@ -1,10 +1,10 @@
--- `place_of` is right: the place lies between low and high, and a turn halves what is between them.
+-- `key_place` is right: the place lies between low and high, and a turn halves what is between them.
 use Prim.Native.Nat.{_-_}
 use native.Mathlib.Omega.{arith}
 use borrow.Author.Needs.{needs}
 use Rattle.asks.proofs.Halving.{Between, starts, goes-up, goes-down, ends}
-use Rattle.asks.proofs.place_of.Statement.{statement}
-use Rattle.asks.proofs.place_of.Tie as tie
+use Rattle.asks.proofs.key_place.Statement.{statement}
+use Rattle.asks.proofs.key_place.Tie as tie
 
 abbrev Inv-loop : tie.InvT-loop
 Inv-loop keys n first second sought low₀ high₀ low high = Between keys n sought low high
@@ -52,8 +52,8 @@ loop-again-2 c =
 returns : tie.Need-returns Inv-loop μ-loop
 returns c = ends (c .before .loop .inv) (c .loop-test .left) (c .before .before .key .ensures)
 
-pub place-of-spec : {M : Type 1} → statement M
-place-of-spec =
+pub key-place-spec : {M : Type 1} → statement M
+key-place-spec =
     tie.close
     (tie.spec
     Inv-loop
