@@ -156,8 +156,6 @@ def small_boards():
 
 def main():
     folder, words = sys.argv[1], sys.argv[2:]
-    if words not in ([], ['compare']):
-        sys.exit('bench: the word is compare, or none')
     bench = Bench(folder)
     say('comparing random calls')
     print('# Speed of the library beside plain Rust')
