@@ -1,15 +1,17 @@
 -- The inner loop of `trouble_of`: none of the first k setters makes a need of d wrong, and `reach` is what
--- they can make of the sets. A setter stands for a duty of the pool, and its mend for that duty's earliest.
+-- they can make of the sets. A setter stands for a duty of the pool, and its mend for that duty's earliest
+-- once the table of mends is made; until then it stands for none.
 use mathlib.Core.Path.{_≡_, refl, sym, ap, _∙_}
 use mathlib.Core.Bool.{Bool, true, false}
-use mathlib.Core.List.{List, map}
+use mathlib.Core.List.{List, [], map}
 use Prim.Native.Nat.{ℕ, _+_, _≤_, _<_}
 use native.Mathlib.Omega.{arith}
-use lib.ListN.{length, take, getD}
+use lib.ListN.{length, take, getD, replicate, length-replicate, getD-replicate}
 use lib.Seq.{take-all, getD-take}
 use Rattle.orders.specs.Lists.{Mem, any, keep}
 use Rattle.orders.proofs.Lists.{keep-mem}
 use Rattle.orders.proofs.Loops.{take-mem, none-next}
+use Rattle.orders.proofs.Tests.{by-test, clash, and-yes}
 use Rattle.asks.specs.declared.Ask.{Ask}
 use Rattle.board.specs.declared.Duty.{Duty}
 use Rattle.board.specs.Filler.{noDuty}
@@ -19,7 +21,8 @@ use Rattle.troubles.specs.declared.setting.Setter.{Setter}
 use Rattle.troubles.specs.Reaching.{reachWith, reachOf, metWith}
 use Rattle.troubles.specs.Setting.{setsOne, setterOf, userOf}
 use Rattle.quick_test.specs.Mends.{lastMinute, firstMend}
-use Rattle.quick_test.specs.Tests.{canBeMet, makesWrong}
+use Rattle.quick_test.specs.Tests.{canBeMet, spoils, makesWrong}
+use Rattle.quick_test.proofs.Mending.{first-none}
 use Rattle.troubles.proofs.AllMends.{as-many, at-place, mendIn}
 use Rattle.troubles.proofs.Idle.{mends-kept, wrong-kept}
 use Rattle.troubles.proofs.Reached.{reach-none, reach-more, reach-kept}
@@ -31,22 +34,53 @@ use Rattle.troubles.proofs.Weighing.{concerned, apart-right, not-reache
 abbrev pub settersIn : List Duty → List Duty
 settersIn pool = keep setsOne pool
 
-pub record Ready (pool : List Duty) (setters : List Setter) (users mends : List ℕ) (m : ℕ) : Type 0 where
+pub record Ready (pool : List Duty) (setters : List Setter) (users : List ℕ) (m : ℕ) : Type 0 where
   pub few : m ≤ maxDuties
   pub all-setters : length setters ≡ maxDuties
   pub all-users : length users ≡ maxDuties
-  pub all-mends : length mends ≡ maxDuties
   pub are : take m setters ≡ map setterOf (settersIn pool)
   pub users-are : take m users ≡ map (λ x. x .user) (take m setters)
-  pub mended : take m mends ≡ map (mendIn (settersIn pool)) (settersIn pool)
+
+pub ready :
+    {pool : List Duty} {setters : List Setter} {users : List ℕ} {m : ℕ}
+    → (take m setters ≡ map setterOf (settersIn pool)) × (m ≤ maxDuties) × (length setters ≡ maxDuties)
+    → length users ≡ maxDuties → take m users ≡ map (λ x. x .user) (take m setters)
+    → Ready pool setters users m
+ready (are, few, long) all-users users-are =
+    record { few = few; all-setters = long; all-users = all-users; are = are; users-are = users-are }
+
+-- the table of mends, made or not
+pub record Table (pool : List Duty) (m : ℕ) (mends : List ℕ) (made : Bool) : Type 0 where
+  pub long : length mends ≡ maxDuties
+  pub empty : made ≡ false → mends ≡ replicate maxDuties lastMinute
+  pub mended : made ≡ true → take m mends ≡ map (mendIn (settersIn pool)) (settersIn pool)
+
+pub table-starts : {pool : List Duty} {m : ℕ} → Table pool m (replicate maxDuties lastMinute) false
+table-starts =
+    record {
+      long = length-replicate maxDuties lastMinute;
+      empty = λ e. refl;
+      mended = λ e. clash e refl;
+    }
+
+pub table-made :
+    {pool : List Duty} {m : ℕ} {mends : List ℕ} → length mends ≡ maxDuties
+    → take m mends ≡ map (mendIn (settersIn pool)) (settersIn pool) → Table pool m mends true
+table-made long is = record { long = long; empty = λ e. clash refl e; mended = λ e. is }
 
 -- what is mended by a duty of the pool is mended by one that sets
 wrong-in : (pool : List Duty) (d : Duty) (ask : Ask) (x : Duty)
     → makesWrong (settersIn pool) d ask x ≡ makesWrong pool d ask x
 wrong-in pool d ask x = rw (mends-kept x d pool)
 
-module _ {pool : List Duty} {setters : List Setter} {users mends : List ℕ} {m : ℕ}
-    (known : Ready pool setters users mends m)
+-- what is right with no duty to mend it is right with any
+right-anyway :
+    (pool : List Duty) (d : Duty) (ask : Ask) (x : Duty)
+    → makesWrong [] d ask x ≡ false → makesWrong pool d ask x ≡ false
+right-anyway pool d ask x e = rw (sym (and-yes (spoils d ask x)) ∙ e)
+
+module _ {pool : List Duty} {setters : List Setter} {users : List ℕ} {m : ℕ}
+    (known : Ready pool setters users m)
   where
     fits : m ≤ length setters
     fits = rw (known .all-setters) (known .few)
@@ -74,19 +108,21 @@ module _ {pool : List Duty} {setters : List Setter} {users mends : List ℕ} {m 
       setter-concerned doer target z e = rw (user-at z) at e
 
       mend-at :
-          (z : ℕ) → getD mends k z ≡ firstMend (getD (settersIn pool) k noDuty) lastMinute (settersIn pool)
-      mend-at z =
-          at-place
-          (mendIn (settersIn pool))
-          mends
-          m
-          (settersIn pool)
-          (known .mended)
-          (rw (known .all-mends) (known .few))
-          k
-          z
-          noDuty
-          h
+          {mends : List ℕ} {made : Bool} → Table pool m mends made → made ≡ true
+          → getD mends k 0 ≡ firstMend (getD (settersIn pool) k noDuty) lastMinute (settersIn pool)
+      mend-at {mends} table e =
+          let room : m ≤ length mends = rw (table .long) (known .few) in
+          let l = settersIn pool in
+          at-place (mendIn l) mends m l (table .mended e) room k 0 noDuty h
+
+      no-mend-at :
+          {mends : List ℕ} {made : Bool} → Table pool m mends made → made ≡ false
+          → getD mends k 0 ≡ firstMend (getD (settersIn pool) k noDuty) lastMinute []
+      no-mend-at table e =
+          let few = known .few in
+          rw
+          (table .empty e, first-none (getD (settersIn pool) k noDuty) lastMinute)
+          (getD-replicate maxDuties k lastMinute 0 (omega arith))
 
 -- ---- one duty d
 
@@ -100,8 +136,8 @@ pub record Weighed
         ≡ reachOf d ask (getD sets (d .doer) 0) (getD sets (ask .target) 0) (take k (settersIn pool))
     pub none-wrong : any (makesWrong pool d ask) (take k (settersIn pool)) ≡ false
 
-module _ (sets : List ℕ) {pool : List Duty} {setters : List Setter} {users mends : List ℕ} {m : ℕ}
-    (known : Ready pool setters users mends m) (d : Duty) (ask : Ask)
+module _ (sets : List ℕ) {pool : List Duty} {setters : List Setter} {users : List ℕ} {m : ℕ}
+    (known : Ready pool setters users m) (d : Duty) (ask : Ask)
   where
     pub weighing-starts :
         {own theirs : ℕ} → own ≡ getD sets (d .doer) 0 → theirs ≡ getD sets (ask .target) 0
@@ -143,33 +179,43 @@ module _ (sets : List ℕ) {pool : List Duty} {setters : List Setter} {users men
           one-more (apart-right d ask y pool apart) (not-reached d ask reach y refl apart)
 
       -- what the code found of it
-      module _ (z : Setter) (wrong : Bool)
+      module _ {mends : List ℕ} {made : Bool} (table : Table pool m mends made) (z : Setter) (wrong : Bool)
           (weighed :
           (y : Duty) (l : List Duty) → getD setters k z ≡ setterOf y
           → getD mends k 0 ≡ firstMend y lastMinute l → wrong ≡ makesWrong l d ask y)
         where
-          is-wrong : wrong ≡ makesWrong pool d ask y
-          is-wrong =
-              weighed y (settersIn pool) (setter-at known k h z) (mend-at known k h 0) ∙ wrong-in pool d ask y
+          is-wrong : made ≡ true → wrong ≡ makesWrong pool d ask y
+          is-wrong e =
+              weighed y (settersIn pool) (setter-at known k h z) (mend-at known k h table e)
+              ∙ wrong-in pool d ask y
+
+          is-right : wrong ≡ false → makesWrong pool d ask y ≡ false
+          is-right r =
+              by-test
+              made
+              (λ e. sym (is-wrong e) ∙ r)
+              (λ e.
+              let alone = weighed y [] (setter-at known k h z) (no-mend-at known k h table e) in
+              right-anyway pool d ask y (sym alone ∙ r))
 
           pub next-weighed :
               wrong ≡ false → (next : Reach)
               → ((g : Duty) → getD setters k z ≡ setterOf g → next ≡ reachWith d ask reach g)
               → Weighed sets pool d ask m next (k + 1)
-          next-weighed e next step = one-more (sym is-wrong ∙ e) (step y (setter-at known k h z))
+          next-weighed e next step = one-more (is-right e) (step y (setter-at known k h z))
 
           -- the duty that spoils it
           pub spoiler :
-              wrong ≡ true
+              made ≡ true → wrong ≡ true
               → (x : Duty) × Mem x pool × (getD setters k z .serial .0 ≡ x .serial .0)
               × (makesWrong pool d ask x ≡ true)
-          spoiler e =
+          spoiler e w =
               let all = take-all m (settersIn pool) (omega (arith, many known)) in
               let open-y = rw all at (take-mem (settersIn pool) m k noDuty h inside) in (
                 y,
                 keep-mem setsOne pool open-y .0,
                 ap (λ (x : Setter). x .serial .0) (setter-at known k h z),
-                sym is-wrong ∙ e,
+                sym (is-wrong e) ∙ w,
               )
 
     -- all setters are weighed

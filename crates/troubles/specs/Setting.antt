@@ -40,6 +40,7 @@ setterOf d =
     record {
       serial = d .serial;
       user = userOf (d .what);
+      spare = 0;
       grants = grantsOf (d .what);
       revokes = revokesOf (d .what);
       start = d .start;

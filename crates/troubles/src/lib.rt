@@ -13,6 +13,7 @@ use pairs::Reach;
 use pairs::can_be_met;
 use pairs::makes_wrong;
 use pairs::reach_with;
+use setting::LAST_MINUTE;
 use setting::mends_of;
 use setting::setters_of;
 use setting::users_of;
@@ -26,7 +27,9 @@ pub enum Trouble {
     Found { spoiler: Serial, stuck: Serial },
 }
 
-// What makes a board red with these holdings: the first n duties, and what is asked for each.
+// What makes a board red with these holdings: the first n duties, and what is asked for each. Most boards are
+// judged without a mend, so the table of mends is made late, once, where a duty is first in trouble without
+// it, and that duty is judged again; until then every mend stands at the last minute, at which nothing mends.
 pub fn trouble_of(
     duties: [Duty; Board::DUTIES],
     asks: [Ask; Board::DUTIES],
@@ -38,8 +41,9 @@ pub fn trouble_of(
     let gathered = setters_of(duties, n);
     let setters = gathered.all;
     let m = gathered.count;
-    let mends = mends_of(setters, m);
     let users = users_of(setters, m);
+    let mut mends = [LAST_MINUTE; Board::DUTIES];
+    let mut made = false;
     let mut i: usize = 0;
     while (i < n) & (i < Board::DUTIES) {
         let d = duties[i];
@@ -68,19 +72,28 @@ pub fn trouble_of(
                 let next = reach_with(reach, x, d, ask);
                 reach = next;
                 if makes_wrong(x, mend, d, ask, actor) {
-                    let spoiler = x.serial;
-                    return Trouble::Found { spoiler, stuck };
+                    if made {
+                        let spoiler = x.serial;
+                        return Trouble::Found { spoiler, stuck };
+                    }
+                    break;
                 }
             }
             k += 1;
         }
-        if !can_be_met(reach, ask) {
-            return Trouble::Found {
-                spoiler: stuck,
-                stuck,
-            };
+        if k < m {
+            let table = mends_of(setters, m);
+            mends = table;
+            made = true;
+        } else {
+            if !can_be_met(reach, ask) {
+                return Trouble::Found {
+                    spoiler: stuck,
+                    stuck,
+                };
+            }
+            i += 1;
         }
-        i += 1;
     }
     Trouble::Nothing
 }

@@ -15,13 +15,14 @@ ghost use Rattle.troubles.specs.Setting.{setsOne, setterOf};
 ghost use Rattle.quick_test.specs.Mends.{lastMinute, firstMend};
 
 // The last minute.
-const LAST_MINUTE: u32 = 4294967295;
+pub(crate) const LAST_MINUTE: u32 = 4294967295;
 
 // A duty that sets a holding, in numbers: whom it sets, the role that it grants or revokes as a set, and its
-// window.
+// window. With the spare number it has no gap in memory, so that room for many is cleared at once.
 pub(crate) struct Setter {
     pub serial: Serial,
     pub user: u16,
+    pub spare: u16,
     pub grants: u32,
     pub revokes: u32,
     pub start: u32,
@@ -61,6 +62,7 @@ fn setter_of(d: Duty) -> Setter
         What::Grant { target, role } => Setter {
             serial,
             user: target,
+            spare: 0,
             grants: roles::with_role(0, role),
             revokes: 0,
             start: d.start,
@@ -69,6 +71,7 @@ fn setter_of(d: Duty) -> Setter
         What::Revoke { target, role } => Setter {
             serial,
             user: target,
+            spare: 0,
             grants: 0,
             revokes: roles::with_role(0, role),
             start: d.start,
@@ -80,6 +83,7 @@ fn setter_of(d: Duty) -> Setter
         } => Setter {
             serial,
             user: 0,
+            spare: 0,
             grants: 0,
             revokes: 0,
             start: d.start,
@@ -96,6 +100,7 @@ pub(crate) fn setters_of(duties: [Duty; Board::DUTIES], n: usize) -> Setters
     let filler = Setter {
         serial: Serial(0),
         user: 0,
+        spare: 0,
         grants: 0,
         revokes: 0,
         start: 0,

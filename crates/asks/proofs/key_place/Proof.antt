@@ -1,16 +1,17 @@
--- `key_place` is right: the place lies between low and high, and a turn halves what is between them.
-use Prim.Native.Nat.{_-_}
+-- `key_place` is right: those before low are below what is sought, those beyond what is left are not, and a
+-- turn halves what is left.
+use mathlib.Core.Logic.{⊎-elim}
 use native.Mathlib.Omega.{arith}
 use borrow.Author.Needs.{needs}
-use Rattle.asks.proofs.Halving.{Between, starts, goes-up, goes-down, ends}
+use Rattle.asks.proofs.Halving.{Left, starts, goes-up, goes-down, ends}
 use Rattle.asks.proofs.key_place.Statement.{statement}
 use Rattle.asks.proofs.key_place.Tie as tie
 
 abbrev Inv-loop : tie.InvT-loop
-Inv-loop keys n first second sought low₀ high₀ low high = Between keys n sought low high
+Inv-loop keys n first second sought low₀ left₀ low left = Left keys n sought low left
 
 abbrev μ-loop : tie.MeasureT-loop
-μ-loop keys n first second sought low₀ high₀ low high = high - low
+μ-loop keys n first second sought low₀ left₀ low left = left
 
 key-requires : tie.Need-key-requires Inv-loop μ-loop
 key-requires c κs = search needs
@@ -18,11 +19,14 @@ key-requires c κs = search needs
 loop-holds : tie.Need-loop-holds Inv-loop μ-loop
 loop-holds c = starts
 
-sub-middle : tie.Need-sub-middle Inv-loop μ-loop
-sub-middle c = search needs
+sub-half : tie.Need-sub-half Inv-loop μ-loop
+sub-half c = search needs
 
-add-middle : tie.Need-add-middle Inv-loop μ-loop
-add-middle c = search needs
+add-next : tie.Need-add-next Inv-loop μ-loop
+add-next c = search needs
+
+sub-if1 : tie.Need-sub-if1 Inv-loop μ-loop
+sub-if1 c = search needs
 
 mul-if1 : tie.Need-mul-if1 Inv-loop μ-loop
 mul-if1 c = search needs
@@ -30,24 +34,20 @@ mul-if1 c = search needs
 shared-slice-read-if1 : tie.Need-shared-slice-read-if1 Inv-loop μ-loop
 shared-slice-read-if1 c = search needs
 
-add-low : tie.Need-add-low Inv-loop μ-loop
-add-low c = search needs
+sub-left : tie.Need-sub-left Inv-loop μ-loop
+sub-left c = search needs
 
 loop-less : tie.Need-loop-less Inv-loop μ-loop
 loop-less c = search needs
 
 loop-again : tie.Need-loop-again Inv-loop μ-loop
 loop-again c =
-    let known = c .before .before .before .loop .inv in
-    goes-up known (omega arith) (omega arith) (omega arith)
-
-loop-less-2 : tie.Need-loop-less-2 Inv-loop μ-loop
-loop-less-2 c = search needs
-
-loop-again-2 : tie.Need-loop-again-2 Inv-loop μ-loop
-loop-again-2 c =
-    let known = c .before .before .before .loop .inv in
-    goes-down known (omega arith) (omega arith) (omega arith)
+    let turn = c .before .before in
+    let known = turn .before .loop .inv in
+    ⊎-elim
+    (λ w. rw (w .1) (goes-up known (omega arith) (omega arith) (w .0 .taken)))
+    (λ w. rw (w .1) (goes-down known (omega arith) (omega arith) (omega arith) (w .0 .left)))
+    (c .if1 .came)
 
 returns : tie.Need-returns Inv-loop μ-loop
 returns c = ends (c .before .loop .inv) (c .loop-test .left) (c .before .before .key .ensures)
@@ -60,13 +60,12 @@ key-place-spec =
     μ-loop
     key-requires
     loop-holds
-    sub-middle
-    add-middle
+    sub-half
+    add-next
+    sub-if1
     mul-if1
     shared-slice-read-if1
-    add-low
+    sub-left
     loop-less
     loop-again
-    loop-less-2
-    loop-again-2
     returns)
