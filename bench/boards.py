@@ -234,22 +234,25 @@ def uses():
 
 
 def worst(n=DUTIES, seed=7):
-    """Every duty sets a holding of its own doer, in windows of no order, under rules that want and bar: each
-    setter has to be looked at for each duty, and no test can be foreseen. Of what is needed only role 6
-    changes: the first duty revokes it, the second grants it again and the third wants it, so that what mends
-    has to be found."""
+    """Every duty sets a holding of its own doer, under rules that want and bar: each setter has to be looked
+    at for each duty. The second duty revokes role 6, the third grants it again and the fourth wants it, so
+    that what mends has to be found; nothing else that is needed changes, and the windows of the others have
+    no order, so that no test can be foreseen."""
     dice = random.Random(seed)
     board = full()
     board.holdings[1] = 0b11
     for role in range(ROLES):
         board.rules[GRANT, role] = board.rules[REVOKE, role] = (0, 0b10, 1 << 31)
     board.rules[GRANT, 7] = (0, 0b1000010, 1 << 31)
-    for at, kind, role in ((0, REVOKE, 6), (2, GRANT, 6), (4, GRANT, 7)):
-        board.add(1, kind, 1, role, at, at + 1)
-    for _ in range(n - 3):
+    mended = {1: (REVOKE, 6), 2: (GRANT, 6), 3: (GRANT, 7)}
+    for place in range(n):
         start = 10 + dice.randrange(10000)
         end = start + dice.randrange(3000)
-        board.add(1, dice.choice((GRANT, REVOKE)), 1, dice.randrange(2, 6), start, end)
+        kind, role = dice.choice((GRANT, REVOKE)), dice.randrange(2, 6)
+        if place in mended:
+            kind, role = mended[place]
+            start, end = 2 * place, 2 * place + 1
+        board.add(1, kind, 1, role, start, end)
     return board
 
 

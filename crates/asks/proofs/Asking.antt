@@ -22,7 +22,7 @@ use Rattle.board.proofs.GoodLaws.{good→counts, good→records, records→rang
 use Rattle.asks.specs.declared.Ask.{Ask}
 use Rattle.asks.specs.Asks.{noAsk, inOneForm, askOf, AsksOf}
 use Rattle.asks.specs.Keys.{keyOf, Keys}
-use Rattle.asks.specs.Halved.{Rising, Halved}
+use Rattle.asks.specs.Halved.{Halved}
 use Rattle.asks.proofs.Found.{keyBy, hasBoth, Rises, find-there, find-nowhere}
 use Rattle.asks.proofs.Places.{one-more}
 
@@ -90,7 +90,7 @@ module _ {A : Type 0} {first second : A → ℕ} {l whole : List A} {n : ℕ}
     (known : Rises first second l n whole) (z : A) {room : ℕ} {keys : List ℕ}
     (stand : Keys (keyBy first second) l z room n keys) (a b : ℕ) (asks : Option A → Ask) {asked ask : Ask}
     (is : asked ≡ asks (find (hasBoth first second a b) whole)) {at : ℕ}
-    (halved : Rising keys n → Halved keys n (keyOf a b) at) where
+    (halved : Halved keys n (keyOf a b) at) where
   -- what the record at the place asks is asked,
   pub asked-there : at < n → ask ≡ asks (find (hasBoth first second a b) (getD l at z ∷ [])) → ask ≡ asked
   asked-there h e = e ∙ sym (is ∙ ap asks (find-there known z stand a b halved h))

@@ -5,7 +5,7 @@ use mathlib.Core.Logic.{⊎-elim}
 use mathlib.Core.Bool.{Bool, true, _&&_}
 use mathlib.Core.Option.{none}
 use mathlib.Core.List.{List, [], _∷_}
-use Prim.Native.Nat.{ℕ, zero, suc, _≤_, _<_}
+use Prim.Native.Nat.{ℕ, zero, suc, _-_, _≤_, _<_}
 use native.Mathlib.Nat.{le-of-suc-le-suc, not-suc-le-zero}
 use native.Mathlib.Omega.{arith}
 use lib.Dec.{eqb, ltb}
@@ -18,7 +18,7 @@ use Rattle.orders.proofs.Lists.{any-false, mid, Finds, find-case}
 use Rattle.orders.proofs.Loops.{take-mem, mem-take}
 use Rattle.board.specs.Good.{pairBelow}
 use Rattle.asks.specs.Keys.{span, keyOf, Keys}
-use Rattle.asks.specs.Halved.{Rising, Halved}
+use Rattle.asks.specs.Halved.{Halved}
 
 -- ---- keys rise as the pairs do
 
@@ -79,21 +79,19 @@ module _ {A : Type 0} {first second : A → ℕ} {l whole : List A} {n : ℕ}
       (rw (getD-take n l i z (omega arith), getD-take n l j z k) at below)
 
   module _ {room : ℕ} {keys : List ℕ} (stand : Keys (keyBy first second) l z room n keys) (a b : ℕ) {at : ℕ}
-      (halved : Rising keys n → Halved keys n (keyOf a b) at) where
-    rising : Rising keys n
-    rising i j h k =
-        let below : i < n = omega arith in
-        rw (stand .are i below, stand .are j k) (keys-rise i j h k)
-
+      (halved : Halved keys n (keyOf a b) at) where
     earlier-lower : (j : ℕ) → j < at → keyBy first second (getD l j z) < keyOf a b
     earlier-lower j h =
-        let inside = halved rising .inside in
-        rw (stand .are j (omega arith)) at (halved rising .lower j h)
+        let inside = halved .inside in
+        let lower = rw (stand .are (at - 1) (omega arith)) at (halved .lower (at - 1) (omega arith)) in
+        by-test
+        (ltb j (at - 1))
+        (λ t. let k = keys-rise j (at - 1) (ltb-true j (at - 1) t) (omega arith) in omega arith)
+        (λ f. let same : j ≡ at - 1 = omega (arith, ltb-false j (at - 1) f) in rw same lower)
 
     later-higher : (j : ℕ) → at < j → j < n → keyOf a b < keyBy first second (getD l j z)
     later-higher j h k =
-        let place = halved rising in
-        let higher = rw (stand .are at (omega arith)) at (place .higher at (omega arith) (omega arith)) in
+        let higher = rw (stand .are at (omega arith)) at (halved .higher (omega arith)) in
         let more = keys-rise at j h k in
         omega arith
 

@@ -1,5 +1,5 @@
--- A search by halving among rising numbers: so many are left to look at from low on. A turn halves them, and
--- where none is left the place is found.
+-- A search by halving among numbers: the place is not before low, and at most so many places beyond it. A
+-- turn halves what is left, and where nothing is left the place is found.
 use mathlib.Core.Path.{_≡_}
 use mathlib.Core.List.{List}
 use Prim.Native.Nat.{ℕ, _+_, _-_, _≤_, _<_}
@@ -8,68 +8,83 @@ use lib.Dec.{ltb}
 use lib.ListN.{getD}
 use borrow.Author.Tests.{ltb-true, ltb-false}
 use Rattle.orders.proofs.Tests.{by-test}
-use Rattle.asks.specs.Halved.{Rising, Halved}
+use Rattle.asks.specs.Halved.{Halved}
 
--- those before low are below what is sought, and those beyond what is left are not
-pub record Left (keys : List ℕ) (n sought low left : ℕ) : Type 0 where
-  pub inside : low + left ≤ n
-  pub lower : Rising keys n → (i : ℕ) → i < low → getD keys i 0 < sought
-  pub higher : Rising keys n → (i : ℕ) → low + left ≤ i → i < n → sought ≤ getD keys i 0
+-- The one before low is below what is sought, and the one at high is not: high is the last place that is
+-- left, or the one before it, since a turn that goes down may leave one place too many.
+pub record Between (keys : List ℕ) (n sought low left : ℕ) : Type 0 where
+  pub high : ℕ
+  pub ordered : low ≤ high
+  pub last : high ≤ low + left
+  pub nearly : low + left ≤ high + 1
+  pub within : low + left ≤ n
+  pub lower : (i : ℕ) → i + 1 ≡ low → getD keys i 0 < sought
+  pub higher : high < n → sought ≤ getD keys high 0
 
 module _ {keys : List ℕ} {n sought : ℕ} where
-  pub starts : Left keys n sought 0 n
+  pub starts : Between keys n sought 0 n
   starts =
       record {
-        inside = omega arith;
-        lower = λ rise i h. absurd (omega arith);
-        higher = λ rise i h k. absurd (omega arith);
+        high = n;
+        ordered = omega arith;
+        last = omega arith;
+        nearly = omega arith;
+        within = omega arith;
+        lower = λ i e. omega arith;
+        higher = λ h. omega arith;
       }
 
   -- a turn looks at the last of the lower half
-  module _ {low left half : ℕ} (known : Left keys n sought low left) (some : 0 < half) (few : half ≤ left)
+  module _ {low left half : ℕ} (known : Between keys n sought low left) (some : 0 < half) (few : half ≤ left)
     where
-    abbrev last : ℕ
-    last = low + half - 1
+      abbrev middle : ℕ
+      middle = low + half - 1
 
-    inside : last < n
-    inside = let h = known .inside in omega arith
+      -- it is below, so the place is beyond it
+      pub goes-up : getD keys middle 0 < sought → Between keys n sought (low + half) (left - half)
+      goes-up h =
+          let high = known .high in
+          by-test
+          (ltb middle high)
+          (λ t.
+          let beyond = ltb-true middle high t in
+          record {
+            high = high;
+            ordered = omega arith;
+            last = omega arith;
+            nearly = omega arith;
+            within = omega arith;
+            lower = λ i e. let same : i ≡ middle = omega arith in rw same h;
+            higher = known .higher;
+          })
+          (λ f.
+          let same : high ≡ middle = omega (arith, ltb-false middle high f) in
+          let not-below : sought ≤ getD keys middle 0 = rw same at (known .higher (omega arith)) in
+          absurd (omega arith))
 
-    -- it is below, so those up to it are
-    pub goes-up : getD keys last 0 < sought → Left keys n sought (low + half) (left - half)
-    goes-up h =
-        let within = known .inside in
-        record {
-          inside = omega arith;
-          lower = λ rise i k.
-              by-test
-              (ltb i last)
-              (λ t. let more = rise i last (ltb-true i last t) inside in omega arith)
-              (λ f. let same : i ≡ last = omega (arith, ltb-false i last f) in rw same h);
-          higher = λ rise i k l. known .higher rise i (omega arith) l;
-        }
-
-    -- it is not, so those from it on are not
-    pub goes-down : half + half ≤ left + 1 → sought ≤ getD keys last 0 → Left keys n sought low (left - half)
-    goes-down middle h =
-        let within = known .inside in
-        record {
-          inside = omega arith;
-          lower = known .lower;
-          higher = λ rise i k l.
-              by-test
-              (ltb last i)
-              (λ t. let more = rise last i (ltb-true last i t) l in omega arith)
-              (λ f. let same : i ≡ last = omega (arith, ltb-false last i f) in rw same h);
-        }
+      -- it is not, so the place is at most there
+      pub goes-down :
+          half + half ≤ left + 1 → left ≤ half + half → sought ≤ getD keys middle 0
+          → Between keys n sought low (left - half)
+      goes-down most least h =
+          record {
+            high = middle;
+            ordered = omega arith;
+            last = omega arith;
+            nearly = omega arith;
+            within = omega arith;
+            lower = known .lower;
+            higher = λ k. h;
+          }
 
   pub ends :
-      {low left pair : ℕ} → Left keys n sought low left → left ≤ 0 → sought ≡ pair → Rising keys n
+      {low left pair : ℕ} → Between keys n sought low left → left ≤ 0 → sought ≡ pair
       → Halved keys n pair low
-  ends {low} {left} known h e rise =
-      let within = known .inside in
+  ends {low} {left} known h e =
+      let same : low ≡ known .high = omega arith in
       rw (← e)
       (record {
         inside = omega arith;
-        lower = known .lower rise;
-        higher = λ i k l. known .higher rise i (omega arith) l;
+        lower = known .lower;
+        higher = λ k. rw same (known .higher (omega arith));
       })

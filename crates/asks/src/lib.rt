@@ -18,7 +18,7 @@ ghost use Rattle.board.specs.Permitted.{isFor, governs, byPermission, byRule};
 ghost use Rattle.board.specs.View.{view};
 ghost use Rattle.asks.specs.Asks.{noAsk, inOneForm, AsksOf};
 ghost use Rattle.asks.specs.Keys.{keyOf, permissionKey, ruleKey, Keys};
-ghost use Rattle.asks.specs.Halved.{Rising, Halved};
+ghost use Rattle.asks.specs.Halved.{Halved};
 
 // What is asked, in one form: whether there is a permission or rule; the role that the doer is to hold; and
 // of whom the wanted and the barred roles are asked.
@@ -73,11 +73,11 @@ fn rule_keys(rules: [Rule; Board::RULES], n: usize) -> [u32; Board::RULES]
 }
 
 // The place, among the first n keys, that the key of the two numbers has or would have, where the keys rise.
-// Each turn halves what is left, whichever way it goes, so all searches among n keys take as many turns.
+// Each turn halves what is left, whichever way it goes, so all searches among n keys take the same number of
+// turns.
 fn key_place(keys: &[u32], n: usize, first: u16, second: u16) -> usize
     requires { ⌜ n ≤ length (now keys) ⌝ }
-    ensures { λ r. ⌜ (Rising (now (keys .entry)) n
-        → Halved (now (keys .entry)) n (keyOf first second) r) ⌝ }
+    ensures { λ r. ⌜ Halved (now (keys .entry)) n (keyOf first second) r ⌝ }
 {
     let sought = key(first, second);
     let mut low: usize = 0;

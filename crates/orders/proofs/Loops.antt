@@ -2,7 +2,7 @@
 -- hand. One place more adds one test to `any`.
 use mathlib.Core.Path.{_≡_, refl, sym, _∙_, ap}
 use mathlib.Core.Bool.{Bool, true, false, _||_}
-use mathlib.Core.List.{List, [], _∷_}
+use mathlib.Core.List.{List, [], _∷_, map}
 use Prim.Native.Nat.{ℕ, zero, suc, _+_, _<_}
 use native.Mathlib.Nat.{le-of-suc-le-suc, not-suc-le-zero}
 use native.Mathlib.Numerals.{add-one}
@@ -19,6 +19,14 @@ or-assoc false b c = refl
 pub or-nothing : (b : Bool) → b || false ≡ b
 or-nothing true = refl
 or-nothing false = refl
+
+-- what stands at a place of a list to which f was applied
+pub getD-map :
+    {A B : Type 0} (f : A → B) (l : List A) (i : ℕ) (z : B) (d : A) → i < length l
+    → getD (map f l) i z ≡ f (getD l i d)
+getD-map f [] i z d h = absurd (not-suc-le-zero h)
+getD-map f (x ∷ l) zero z d h = refl
+getD-map f (x ∷ l) (suc i) z d h = getD-map f l i z d (le-of-suc-le-suc h)
 
 module _ {A : Type 0} where
   -- a place among the first n holds one of the first n

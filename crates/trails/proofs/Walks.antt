@@ -18,8 +18,10 @@ use Rattle.asks.specs.declared.Ask.{Ask}
 use Rattle.asks.specs.Asks.{noAsk, AskedBy}
 use Rattle.board.specs.declared.Duty.{Duty}
 use Rattle.board.specs.Filler.{noDuty}
+use Rattle.in_order.specs.InOrder.{placeOf, byKeys, OfTheFirst}
+use Rattle.in_order.proofs.ByKeys.{as-many, at-key}
 use Rattle.trails.specs.Walking.{Walk, inTrail, trailOf, doOne, doAll, setOut}
-use Rattle.trails.specs.Walking.{PartDone, PlaceOf, Walked}
+use Rattle.trails.specs.Walking.{askAt, AskedInTurn, PartDone, PlaceOf, Walked}
 
 -- ---- one duty, and one part after another
 
@@ -38,40 +40,40 @@ unfolding doAll
 do-append asked w [] m = refl
 do-append asked w (y ∷ l) m = do-append asked (doOne (asked y) w y) l m
 
--- ---- the loop of `do_part`: those duties of the pool that pass a test
+-- ---- the loop of `do_part`: those duties of an order that pass a test
 
 -- the duties below place k are behind the walk
 pub record Passed
-    (pool : List Duty) (asks : List Ask) (passes : Duty → Bool) (start now : Walk × List ℕ) (k : ℕ) : Type 0
+    (order : List Duty) (asks : ℕ → Ask) (passes : Duty → Bool) (start now : Walk × List ℕ) (k : ℕ) : Type 0
   where
     pub long : length (now .1) ≡ length (start .1)
     pub same :
-        (asked : Duty → Ask) → AskedBy asked pool (length pool) asks
-        → doAll asked now (keep passes (drop k pool)) ≡ doAll asked start (keep passes pool)
+        (asked : Duty → Ask) → AskedInTurn asked order asks
+        → doAll asked now (keep passes (drop k order)) ≡ doAll asked start (keep passes order)
 
-module _ {pool : List Duty} {asks : List Ask} {passes : Duty → Bool} {start : Walk × List ℕ} where
-  pub begun : Passed pool asks passes start start 0
+module _ {order : List Duty} {asks : ℕ → Ask} {passes : Duty → Bool} {start : Walk × List ℕ} where
+  pub begun : Passed order asks passes start start 0
   begun = record { long = refl; same = λ asked are. refl }
 
   module _
-      {now : Walk × List ℕ} {k : ℕ} (passed : Passed pool asks passes start now k) (h : k < length pool)
-      (y : Duty) (is : getD pool k noDuty ≡ y)
+      {now : Walk × List ℕ} {k : ℕ} (passed : Passed order asks passes start now k) (h : k < length order)
+      (y : Duty) (is : getD order k noDuty ≡ y)
     where
-      left : drop k pool ≡ y ∷ drop (k + 1) pool
-      left = rw (add-one k) (drop-cons pool k noDuty h ∙ ap (λ (z : Duty). z ∷ drop (suc k) pool) is)
+      left : drop k order ≡ y ∷ drop (k + 1) order
+      left = rw (add-one k) (drop-cons order k noDuty h ∙ ap (λ (z : Duty). z ∷ drop (suc k) order) is)
 
       pub turn-done :
-          passes y ≡ true → (then : Walk × List ℕ) → then ≡ doOne (getD asks k noAsk) now y
-          → Passed pool asks passes start then (k + 1)
+          passes y ≡ true → (then : Walk × List ℕ) → then ≡ doOne (asks k) now y
+          → Passed order asks passes start then (k + 1)
       unfolding doAll
       turn-done t then e =
           record {
-            long = ap (λ (w : Walk × List ℕ). length (w .1)) e ∙ one-keeps (getD asks k noAsk) now y
+            long = ap (λ (w : Walk × List ℕ). length (w .1)) e ∙ one-keeps (asks k) now y
                 ∙ passed .long;
             same = λ asked are. rw (e, are k h, is) (rw (left, t) at (passed .same asked are));
           }
 
-      pub turn-skips : passes y ≡ false → Passed pool asks passes start now (k + 1)
+      pub turn-skips : passes y ≡ false → Passed order asks passes start now (k + 1)
       turn-skips f =
           record {
             long = passed .long;
@@ -79,11 +81,11 @@ module _ {pool : List Duty} {asks : List Ask} {passes : Duty → Bool} {start : 
           }
 
   pub part-done :
-      {now : Walk × List ℕ} {k : ℕ} → length pool ≤ k → Passed pool asks passes start now k
-      → PartDone pool asks passes start now
+      {now : Walk × List ℕ} {k : ℕ} → length order ≤ k → Passed order asks passes start now k
+      → PartDone order asks passes start now
   unfolding doAll
   part-done {k = k} h passed asked are =
-      rw (drop-of-length-le pool {i = k} h) at (passed .same asked are)
+      rw (drop-of-length-le order {i = k} h) at (passed .same asked are)
 
 -- ---- the trail of the duties at two places
 
@@ -125,49 +127,66 @@ module _ (duties : List Duty) (n : ℕ) (asks : List Ask) (asked : Duty → Ask)
         ask = are place (rw length-take (omega arith)) ∙ ap asked (getD-take n duties place noDuty h ∙ is);
       }
 
--- where one of the two is missing, nothing is said
-pub missing :
-    {duties : List Duty} {n spoiler stuck i j : ℕ} → PlaceOf duties n spoiler i → PlaceOf duties n stuck j
-    → leb n i || leb n j ≡ true → (asks : List Ask) (sets before after : List ℕ) (length : ℕ)
-    → Walked (take n duties) asks sets spoiler stuck before after length
-missing {n = n} {i = i} {j = j} x-at d-at t asks sets before after length =
-    λ asked x d are unique x-in x-is d-in d-is.
-    absurd
-    (⊎-elim
-    (λ e. x-at .none (leb-true n i e) x x-in x-is)
-    (λ e. d-at .none (leb-true n j e) d d-in d-is)
-    (or-true (leb n i) (leb n j) t))
+module _ {duties : List Duty} {n spoiler stuck i j : ℕ} (x-at : PlaceOf duties n spoiler i)
+    (d-at : PlaceOf duties n stuck j) (asks : List Ask) (keys sets before : List ℕ) where
+  -- where one of the two is missing, nothing is said
+  pub missing :
+      leb n i || leb n j ≡ true → (after : List ℕ) (r : ℕ)
+      → Walked duties asks n keys sets spoiler stuck before after r
+  missing t after r =
+      λ asked x d are inside unique x-in x-is d-in d-is.
+      absurd
+      (⊎-elim
+      (λ e. x-at .none (leb-true n i e) x x-in x-is)
+      (λ e. d-at .none (leb-true n j e) d d-in d-is)
+      (or-true (leb n i) (leb n j) t))
 
--- the four parts in turn
-pub walked :
-    {duties : List Duty} {n spoiler stuck i j : ℕ} → PlaceOf duties n spoiler i → PlaceOf duties n stuck j
-    → leb n i || leb n j ≡ false → (asks : List Ask) (sets before : List ℕ) →
-    let x = getD duties i noDuty in
-    let d = getD duties j noDuty in
-    (first second third last : Walk × List ℕ)
-    → PartDone (take n duties) asks (inTrail false x d) (setOut sets before) first
-    → second ≡ doOne (getD asks i noAsk) first x
-    → PartDone (take n duties) asks (inTrail true x d) second third
-    → last ≡ doOne (getD asks j noAsk) third d
-    → Walked (take n duties) asks sets spoiler stuck before (last .1) (last .0 .length)
-walked {duties} {n} {i = i} {j = j} x-at d-at f asks sets before first second third last p q r s =
-    λ asked x d are unique x-in x-is d-in d-is.
-    let bounds = or-false (leb n i) (leb n j) f in
-    let at-x = known duties n asks asked are unique _ i x-at (leb-false n i (bounds .0)) x x-in x-is in
-    let at-d = known duties n asks asked are unique _ j d-at (leb-false n j (bounds .1)) d d-in d-is in
-    let whole =
-    four-parts
-    asked
-    (take n duties)
-    x
-    d
-    (setOut sets before)
-    first
-    second
-    third
-    last
-    (rw (at-x .duty, at-d .duty) at (p asked are))
-    (rw (at-x .duty, at-x .ask) at q)
-    (rw (at-x .duty, at-d .duty) at (r asked are))
-    (rw (at-d .duty, at-d .ask) at s) in
-    (ap (λ (w : Walk × List ℕ). w .1) whole, ap (λ (w : Walk × List ℕ). w .0 .length) whole)
+  abbrev order : List Duty
+  order = byKeys duties n keys
+
+  -- what is asked for the duties is asked for them in the order of the keys
+  asked-in-order :
+      (asked : Duty → Ask) → AskedBy asked (take n duties) (length (take n duties)) asks
+      → OfTheFirst duties n keys → AskedInTurn asked order (askAt asks keys)
+  asked-in-order asked are inside k h =
+      let many = as-many duties n keys in
+      let place = placeOf (getD keys k 0) in
+      let within = inside k (omega (arith, many, length-take n keys)) in
+      are place within
+      ∙ ap asked
+      (getD-take n duties place noDuty (omega (arith, length-take n duties))
+      ∙ sym (at-key duties n keys k (omega arith) (omega arith)))
+
+  -- the four parts in turn
+  pub walked :
+      leb n i || leb n j ≡ false →
+      let x = getD duties i noDuty in
+      let d = getD duties j noDuty in
+      (first second third last : Walk × List ℕ)
+      → PartDone order (askAt asks keys) (inTrail false x d) (setOut sets before) first
+      → second ≡ doOne (getD asks i noAsk) first x
+      → PartDone order (askAt asks keys) (inTrail true x d) second third
+      → last ≡ doOne (getD asks j noAsk) third d
+      → Walked duties asks n keys sets spoiler stuck before (last .1) (last .0 .length)
+  walked f first second third last p q r s =
+      λ asked x d are inside unique x-in x-is d-in d-is.
+      let bounds = or-false (leb n i) (leb n j) f in
+      let at-x = known duties n asks asked are unique _ i x-at (leb-false n i (bounds .0)) x x-in x-is in
+      let at-d = known duties n asks asked are unique _ j d-at (leb-false n j (bounds .1)) d d-in d-is in
+      let in-turn = asked-in-order asked are inside in
+      let whole =
+      four-parts
+      asked
+      order
+      x
+      d
+      (setOut sets before)
+      first
+      second
+      third
+      last
+      (rw (at-x .duty, at-d .duty) at (p asked in-turn))
+      (rw (at-x .duty, at-x .ask) at q)
+      (rw (at-x .duty, at-d .duty) at (r asked in-turn))
+      (rw (at-d .duty, at-d .ask) at s) in
+      (ap (λ (w : Walk × List ℕ). w .1) whole, ap (λ (w : Walk × List ℕ). w .0 .length) whole)

@@ -10,13 +10,14 @@ use Rattle.orders.specs.Lists.{Mem, keep}
 use Rattle.roles.specs.Roles.{inSet}
 use Rattle.acts.specs.Meets.{meetsSets}
 use Rattle.asks.specs.declared.Ask.{Ask}
-use Rattle.asks.specs.Asks.{AskedBy}
+use Rattle.asks.specs.Asks.{noAsk, AskedBy}
 use Rattle.board.specs.declared.Duty.{Duty}
 use Rattle.board.specs.Filler.{noDuty}
 use Rattle.board.specs.Good.{whatFits}
 use Rattle.board.specs.Limits.{maxUsers, maxRoles}
 use Rattle.board.specs.Permitted.{changed}
 use Rattle.board.specs.Windows.{whollyBefore}
+use Rattle.in_order.specs.InOrder.{placeOf, byKeys, OfTheFirst}
 use Rattle.trails.specs.declared.Progress.{Progress}
 
 -- ---- the trail of x and d
@@ -71,11 +72,18 @@ unfoldable pub doAll : (Duty → Ask) → Walk × List ℕ → List Duty → Wal
 doAll asked w [] = w
 doAll asked w (y ∷ l) = doAll asked (doOne (asked y) w y) l
 
--- those duties of the pool that pass the test were done
-abbrev pub PartDone : List Duty → List Ask → (Duty → Bool) → Walk × List ℕ → Walk × List ℕ → Type 0
-PartDone pool asks passes before after =
-    (asked : Duty → Ask) → AskedBy asked pool (length pool) asks
-    → after ≡ doAll asked before (keep passes pool)
+-- what is asked for the duty of the k-th key
+abbrev pub askAt : List Ask → List ℕ → ℕ → Ask
+askAt asks keys k = getD asks (placeOf (getD keys k 0)) noAsk
+
+-- these are what `asked` says is asked for the duties of an order, one after the other
+abbrev pub AskedInTurn : (Duty → Ask) → List Duty → (ℕ → Ask) → Type 0
+AskedInTurn asked order asks = (k : ℕ) → k < length order → asks k ≡ asked (getD order k noDuty)
+
+-- those duties of an order that pass the test were done
+abbrev pub PartDone : List Duty → (ℕ → Ask) → (Duty → Bool) → Walk × List ℕ → Walk × List ℕ → Type 0
+PartDone order asks passes before after =
+    (asked : Duty → Ask) → AskedInTurn asked order asks → after ≡ doAll asked before (keep passes order)
 
 -- a walk from these sets of roles
 abbrev pub setOut : List ℕ → List ℕ → Walk × List ℕ
@@ -96,12 +104,15 @@ InRange l = (y : Duty) → Mem y l → whatFits maxUsers maxRoles (y .what) ≡ 
 abbrev pub serials : List Duty → List ℕ
 serials l = map (λ (d : Duty). d .serial .0) l
 
--- The trail of x and d was walked, the duties of the pool that have these serials: the list is what the walk
--- left in it, and n the number of serials written.
-abbrev pub Walked : List Duty → List Ask → List ℕ → ℕ → ℕ → List ℕ → List ℕ → ℕ → Type 0
-Walked pool asks sets spoiler stuck before after n =
+-- The trail of x and d was walked, the duties among the first n that have these serials, in the order of the
+-- keys: the list is what the walk left in it, and r the number of serials written.
+abbrev pub Walked : List Duty → List Ask → ℕ → List ℕ → List ℕ → ℕ → ℕ → List ℕ → List ℕ → ℕ → Type 0
+Walked duties asks n keys sets spoiler stuck before after r =
+    let pool = take n duties in
     (asked : Duty → Ask) (x d : Duty)
     → AskedBy asked pool (length pool) asks
+    → OfTheFirst duties n keys
     → ((y z : Duty) → Mem y pool → Mem z pool → y .serial .0 ≡ z .serial .0 → y ≡ z)
-    → Mem x pool → x .serial .0 ≡ spoiler → Mem d pool → d .serial .0 ≡ stuck
-    → let w = doAll asked (setOut sets before) (trailOf pool x d) in (after ≡ w .1) × (n ≡ w .0 .length)
+    → Mem x pool → x .serial .0 ≡ spoiler → Mem d pool → d .serial .0 ≡ stuck →
+    let w = doAll asked (setOut sets before) (trailOf (byKeys duties n keys) x d) in
+    (after ≡ w .1) × (r ≡ w .0 .length)

@@ -5,8 +5,9 @@ use board::Board;
 use board::Duty;
 use board::Serial;
 ghost use mathlib.Core.Path.{_≡_};
-ghost use lib.ListN.{take};
-ghost use Rattle.trails.specs.Walking.{inTrail, meetsAsk, walking, doOne, PartDone, PlaceOf, Walked};
+ghost use Rattle.in_order.specs.InOrder.{byKeys};
+ghost use Rattle.trails.specs.Walking.{inTrail, meetsAsk, walking, doOne};
+ghost use Rattle.trails.specs.Walking.{askAt, PartDone, PlaceOf, Walked};
 
 // How far a walk through duties has come: how many serials are written, and whether a duty was not permitted.
 struct Progress {
@@ -67,11 +68,12 @@ fn do_one(
     }
 }
 
-// Do those of the first n duties, in their order, that stand early in the trail of x and d, or between the
-// two.
+// Do those of the duties of the first n keys, in their order, that stand early in the trail of x and d, or
+// between the two.
 fn do_part(
-    pool: [Duty; Board::DUTIES],
+    duties: [Duty; Board::DUTIES],
     asks: [Ask; Board::DUTIES],
+    keys: &[u64],
     n: usize,
     x: Duty,
     d: Duty,
@@ -81,16 +83,17 @@ fn do_part(
     list: &mut [u32],
 ) -> Progress
     ensures { λ r. ⌜
-        PartDone (take n pool) asks (inTrail late x d)
+        PartDone (byKeys duties n (now (keys .entry))) (askAt asks (now (keys .entry))) (inTrail late x d)
         (walking (now (holdings .entry)) walk (now (list .entry)))
         (walking (now (holdings .exit)) r (now (list .exit))) ⌝ }
 {
     let mut out = walk;
     let mut k: usize = 0;
-    while (k < n) & (k < Board::DUTIES) {
-        let y = pool[k];
+    while (k < n) & (k < keys.len()) {
+        let place = (keys[k] % Board::DUTIES as u64) as usize;
+        let y = duties[place];
         if in_trail(y, x, d, late) {
-            let ask = asks[k];
+            let ask = asks[place];
             let next = do_one(y, ask, out, holdings, list);
             out = next;
         }
@@ -100,12 +103,12 @@ fn do_part(
 }
 
 // The first place with the serial among the first n duties; n, if there is none.
-fn place_of(pool: [Duty; Board::DUTIES], n: usize, serial: Serial) -> usize
-    ensures { λ r. ⌜ PlaceOf pool n (serial .0) r ⌝ }
+fn place_of(duties: [Duty; Board::DUTIES], n: usize, serial: Serial) -> usize
+    ensures { λ r. ⌜ PlaceOf duties n (serial .0) r ⌝ }
 {
     let mut i: usize = 0;
     while (i < n) & (i < Board::DUTIES) {
-        let d = pool[i];
+        let d = duties[i];
         let own = d.serial;
         if own.0 == serial.0 {
             return i;
@@ -116,10 +119,12 @@ fn place_of(pool: [Duty; Board::DUTIES], n: usize, serial: Serial) -> usize
 }
 
 // Do the trail of the duties with these two serials until one is not permitted: the serials stand at the
-// start of the list, and their number is answered. The pool is the first n duties, in order of start.
+// start of the list, and their number is answered. The first n keys are those of the first n duties, in
+// order of start.
 pub fn write_order(
-    pool: [Duty; Board::DUTIES],
+    duties: [Duty; Board::DUTIES],
     asks: [Ask; Board::DUTIES],
+    keys: &[u64],
     n: usize,
     spoiler: Serial,
     stuck: Serial,
@@ -127,16 +132,16 @@ pub fn write_order(
     list: &mut [u32],
 ) -> usize
     ensures { λ r. ⌜
-        Walked (take n pool) asks holdings (spoiler .0) (stuck .0)
+        Walked duties asks n (now (keys .entry)) holdings (spoiler .0) (stuck .0)
         (now (list .entry)) (now (list .exit)) r ⌝ }
 {
-    let i = place_of(pool, n, spoiler);
-    let j = place_of(pool, n, stuck);
+    let i = place_of(duties, n, spoiler);
+    let j = place_of(duties, n, stuck);
     if (n <= i) | (n <= j) {
         return 0;
     }
-    let x = pool[i];
-    let d = pool[j];
+    let x = duties[i];
+    let d = duties[j];
     let x_ask = asks[i];
     let d_ask = asks[j];
     let mut sets = holdings;
@@ -144,9 +149,9 @@ pub fn write_order(
         length: 0,
         stuck: false,
     };
-    let first = do_part(pool, asks, n, x, d, false, start, &mut sets, list);
+    let first = do_part(duties, asks, keys, n, x, d, false, start, &mut sets, list);
     let second = do_one(x, x_ask, first, &mut sets, list);
-    let third = do_part(pool, asks, n, x, d, true, second, &mut sets, list);
+    let third = do_part(duties, asks, keys, n, x, d, true, second, &mut sets, list);
     let last = do_one(d, d_ask, third, &mut sets, list);
     last.length
 }

@@ -2,12 +2,12 @@
 -- `best` is the earliest among the first k. It is said of every list of duties that set just this.
 use mathlib.Core.Path.{_≡_, refl, sym, ap, _∙_}
 use mathlib.Core.List.{List, [], _∷_, map, map-append}
-use Prim.Native.Nat.{ℕ, zero, suc, _+_, _≤_, _<_}
-use native.Mathlib.Nat.{le-of-suc-le-suc, not-suc-le-zero}
+use Prim.Native.Nat.{ℕ, _+_, _≤_, _<_}
 use native.Mathlib.Numerals.{add-one}
 use native.Mathlib.Omega.{arith}
 use lib.ListN.{length, take, getD, set, length-set, length-map}
 use lib.Seq.{length-take-le, take-all, take-suc, take-suc-set, getD-take}
+use Rattle.orders.proofs.Loops.{getD-map}
 use Rattle.board.specs.declared.Duty.{Duty}
 use Rattle.board.specs.Filler.{noDuty}
 use Rattle.board.specs.Limits.{maxDuties}
@@ -17,13 +17,6 @@ use Rattle.quick_test.specs.Mends.{lastMinute, firstMend}
 use Rattle.quick_test.proofs.Mending.{earlierMend, first-none, first-place}
 
 -- ---- the first m places hold what f makes of a list
-
-getD-map :
-    {A B : Type 0} (f : A → B) (l : List A) (k : ℕ) (z : B) (d : A) → k < length l
-    → getD (map f l) k z ≡ f (getD l k d)
-getD-map f [] k z d h = absurd (not-suc-le-zero h)
-getD-map f (x ∷ l) zero z d h = refl
-getD-map f (x ∷ l) (suc k) z d h = getD-map f l k z d (le-of-suc-le-suc h)
 
 module _
     {A B : Type 0} (f : A → B) (out : List B) (m : ℕ) (l : List A) (are : take m out ≡ map f l)

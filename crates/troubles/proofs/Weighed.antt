@@ -55,12 +55,14 @@ pub record Table (pool : List Duty) (m : ℕ) (mends : List ℕ) (made : Bool) :
   pub empty : made ≡ false → mends ≡ replicate maxDuties lastMinute
   pub mended : made ≡ true → take m mends ≡ map (mendIn (settersIn pool)) (settersIn pool)
 
-pub table-starts : {pool : List Duty} {m : ℕ} → Table pool m (replicate maxDuties lastMinute) false
-table-starts =
+pub table-starts :
+    {pool : List Duty} {m : ℕ} {made : Bool} → made ≡ false
+    → Table pool m (replicate maxDuties lastMinute) made
+table-starts unmade =
     record {
       long = length-replicate maxDuties lastMinute;
       empty = λ e. refl;
-      mended = λ e. clash e refl;
+      mended = λ e. clash e unmade;
     }
 
 pub table-made :

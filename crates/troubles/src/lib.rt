@@ -27,9 +27,8 @@ pub enum Trouble {
     Found { spoiler: Serial, stuck: Serial },
 }
 
-// What makes a board red with these holdings: the first n duties, and what is asked for each. Most boards are
-// judged without a mend, so the table of mends is made late, once, where a duty is first in trouble without
-// it, and that duty is judged again; until then every mend stands at the last minute, at which nothing mends.
+// What makes a board red with these holdings: the first n duties, and what is asked for each. The table of
+// mends is made where a setter first spoils a need, and that duty is judged again; many boards need none.
 pub fn trouble_of(
     duties: [Duty; Board::DUTIES],
     asks: [Ask; Board::DUTIES],
@@ -42,6 +41,7 @@ pub fn trouble_of(
     let setters = gathered.all;
     let m = gathered.count;
     let users = users_of(setters, m);
+    // Until the table is made nothing mends, since nothing starts after the last minute.
     let mut mends = [LAST_MINUTE; Board::DUTIES];
     let mut made = false;
     let mut i: usize = 0;

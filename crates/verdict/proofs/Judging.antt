@@ -32,8 +32,7 @@ use Rattle.board.specs.Told.{OrderTold}
 use Rattle.board.specs.View.{View, view}
 use Rattle.board.proofs.GoodLaws.{RecordsInRange, good→counts, good→records, good→filler, records→range}
 use Rattle.board.proofs.PoolLaws.{duties-pool}
-use Rattle.in_order.specs.declared.Ordered.{Ordered}
-use Rattle.in_order.specs.InOrder.{InOrder}
+use Rattle.in_order.specs.InOrder.{byKeys, InOrder}
 use Rattle.in_order.proofs.Allowed.{rising-order}
 use Rattle.trails.specs.Walking.{serials, InRange, Walked}
 use Rattle.trails.proofs.Cutting.{trail-written}
@@ -101,11 +100,20 @@ module _ (b : Board) (sized : Sized b) (is-good : good b ≡ true) where
 
   -- ---- a duty that gets stuck
 
-  -- o is an order of the open duties
+  -- the keys are those of the open duties, in order of start
   module _
-      (o : List Duty) (ordered : Order W pool o) (x d : Duty) (open-x : Mem x pool) (open-d : Mem d pool)
-      (stuck : StuckBy D s pool d x)
+      (keys : List ℕ) (in-order : InOrder (b .duties) n keys) (x d : Duty) (open-x : Mem x pool)
+      (open-d : Mem d pool) (stuck : StuckBy D s pool d x)
     where
+      abbrev o : List Duty
+      o = byKeys (b .duties) n keys
+
+      ordered : Order W pool o
+      ordered =
+          let windows : (d : Duty) → Mem d pool → d .start ≤ d .end =
+          λ d m. in-range .duties .each d m .window in
+          rising-order v pool o windows (pool-right .distinct) (in-order .same) (in-order .rise)
+
       -- the trail of the two, cut after the first duty that is not permitted
       abbrev cut : List Duty
       cut = cutOff W s (trail W o x d)
@@ -130,16 +138,16 @@ module _ (b : Board) (sized : Sized b) (is-good : good b ≡ true) where
 
       order-told :
           (spoiler stuck : ℕ) → x .serial .0 ≡ spoiler → d .serial .0 ≡ stuck → (asks : List Ask)
-          → AsksOf v o (length o) asks → (before after : List ℕ) (r : ℕ) → maxDuties ≤ length before
-          → Walked o asks (b .holdings) spoiler stuck before after r → OrderTold v before after r
+          → AsksOf v pool (length pool) asks → (before after : List ℕ) (r : ℕ) → maxDuties ≤ length before
+          → Walked (b .duties) asks n keys (b .holdings) spoiler stuck before after r
+          → OrderTold v before after r
       order-told spoiler stuck named-x named-d asks right before after r room walked =
           let long = length-map cut (λ (d : Duty). d .serial .0) in
           let written =
           trail-written v o x d (b .holdings) before (sized .holdings) range (omega (arith, short, room)) in
           let same =
-          walked (askOf v) x d right
-          (λ y z m k e. same-serial W pool (pool-right .distinct) (ordered .only y m) (ordered .only z k) e)
-          (ordered .every x open-x) named-x (ordered .every d open-d) named-d in
+          walked (askOf v) x d right (in-order .inside)
+          (λ y z m k e. same-serial W pool (pool-right .distinct) m k e) open-x named-x open-d named-d in
           record {
             order = serials cut;
             failing = record { list = cut; named = refl; failing = now-fails };
@@ -147,20 +155,15 @@ module _ (b : Board) (sized : Sized b) (is-good : good b ≡ true) where
             list = same .0 ∙ written .0 ∙ ap (λ (k : ℕ). serials cut ++ drop k before) (sym long);
           }
 
-  -- as `judge` finds it, with the duties put in order of start
+  -- as `judge` finds it
   pub found-red :
       (asks : List Ask) → AsksOf v (b .duties) (min n maxDuties) asks → (spoiler stuck : ℕ)
-      → Stuck (b .holdings) pool asks spoiler stuck → (r : Ordered) → InOrder (b .duties) asks n r
+      → Stuck (b .holdings) pool asks spoiler stuck → (keys : List ℕ) → InOrder (b .duties) n keys
       → (before after : List ℕ) (k : ℕ) → maxDuties ≤ length before
-      → Walked (take n (r .duties)) (r .asks) (b .holdings) spoiler stuck before after k
+      → Walked (b .duties) asks n keys (b .holdings) spoiler stuck before after k
       → OrderTold v before after k
-  found-red asks right spoiler stuck found r in-order before after k room walked =
+  found-red asks right spoiler stuck found keys in-order before after k room walked =
       let asked-pool = asked (b .duties) asks right in
-      let windows : (d : Duty) → Mem d pool → d .start ≤ d .end = λ d m. in-range .duties .each d m .window in
-      order-told (take n (r .duties))
-      (rising-order v pool (take n (r .duties)) windows (pool-right .distinct) (in-order .same)
-      (in-order .rise))
-      (found .x) (found .d) (found .open-x) (stuck-open found)
+      order-told keys in-order (found .x) (found .d) (found .open-x) (stuck-open found)
       (stuck-by (b .holdings) v pool asks asked-pool limits found)
-      spoiler stuck (sym (found .named-x)) (sym (found .named-d)) (r .asks)
-      (in-order .moved (askOf v) asked-pool) before after k room walked
+      spoiler stuck (sym (found .named-x)) (sym (found .named-d)) asks asked-pool before after k room walked

@@ -30,10 +30,8 @@ fn judge(b: Board, list: &mut [u32]) -> usize
     let Trouble::Found { spoiler, stuck } = trouble else {
         return 0;
     };
-    let ordered = in_order::in_order(duties, asks, n);
-    let pool = ordered.duties;
-    let pool_asks = ordered.asks;
-    trails::write_order(pool, pool_asks, n, spoiler, stuck, holdings, list)
+    let keys = in_order::in_order(duties, n);
+    trails::write_order(duties, asks, &keys, n, spoiler, stuck, holdings, list)
 }
 
 // Check a board that is known to be good: 9, 8.

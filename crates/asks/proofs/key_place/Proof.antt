@@ -1,14 +1,14 @@
--- `key_place` is right: those before low are below what is sought, those beyond what is left are not, and a
--- turn halves what is left.
+-- `key_place` is right: the place is not before low, and at most so many places beyond it as are left; a turn
+-- halves what is left.
 use mathlib.Core.Logic.{⊎-elim}
 use native.Mathlib.Omega.{arith}
 use borrow.Author.Needs.{needs}
-use Rattle.asks.proofs.Halving.{Left, starts, goes-up, goes-down, ends}
+use Rattle.asks.proofs.Halving.{Between, starts, goes-up, goes-down, ends}
 use Rattle.asks.proofs.key_place.Statement.{statement}
 use Rattle.asks.proofs.key_place.Tie as tie
 
 abbrev Inv-loop : tie.InvT-loop
-Inv-loop keys n first second sought low₀ left₀ low left = Left keys n sought low left
+Inv-loop keys n first second sought low₀ left₀ low left = Between keys n sought low left
 
 abbrev μ-loop : tie.MeasureT-loop
 μ-loop keys n first second sought low₀ left₀ low left = left
@@ -45,8 +45,10 @@ loop-again c =
     let turn = c .before .before in
     let known = turn .before .loop .inv in
     ⊎-elim
-    (λ w. rw (w .1) (goes-up known (omega arith) (omega arith) (w .0 .taken)))
-    (λ w. rw (w .1) (goes-down known (omega arith) (omega arith) (omega arith) (w .0 .left)))
+    (λ w. let below = w .0 .taken in rw (w .1) (goes-up known (omega arith) (omega arith) (omega arith)))
+    (λ w.
+    let not-below = w .0 .left in
+    rw (w .1) (goes-down known (omega arith) (omega arith) (omega arith) (omega arith) (omega arith)))
     (c .if1 .came)
 
 returns : tie.Need-returns Inv-loop μ-loop

@@ -1,73 +1,81 @@
--- `trails::do_part` meets its contract. The loop's invariant: what is left of the pool takes the walk to the
--- same end as the whole pool does from the start.
-use mathlib.Core.Path.{_≡_, sym, _∙_}
+-- `trails::do_part` meets its contract. The loop's invariant: what is left of the order takes the walk to
+-- the same end as the whole order does from the start.
+use mathlib.Core.Path.{refl, sym, _∙_}
 use mathlib.Core.Logic.{⊎-elim}
-use Prim.Native.Nat.{_-_, _≤_, _<_, min}
+use Prim.Native.Nat.{_-_, _≤_, _<_}
 use native.Mathlib.Omega.{arith}
-use lib.ListN.{length, take, length-take}
-use lib.Seq.{getD-take}
+use lib.ListN.{length}
 use borrow.Author.Needs.{needs}
-use Rattle.board.specs.Filler.{noDuty}
-use Rattle.board.specs.Limits.{maxDuties}
-use Rattle.pool.proofs.Turns.{in-turn, at-end}
-use Rattle.trails.specs.Walking.{inTrail, walking}
+use Rattle.pool.proofs.Turns.{goes-on, at-end}
+use Rattle.in_order.specs.InOrder.{byKeys}
+use Rattle.in_order.proofs.ByKeys.{as-many, at-key}
+use Rattle.trails.specs.Walking.{inTrail, askAt, walking}
 use Rattle.trails.proofs.Walks.{Passed, begun, turn-done, turn-skips, part-done}
 use Rattle.trails.proofs.do_part.Statement.{statement}
 use Rattle.trails.proofs.do_part.Tie as tie
 
 abbrev Inv-loop : tie.InvT-loop
-Inv-loop n x d late holdings₀ list₀ pool asks out₀ k₀ holdings list out k =
+Inv-loop keys n x d late holdings₀ list₀ duties asks out₀ k₀ holdings list out k =
     let start = walking holdings₀ out₀ list₀ in
-    (k ≤ n) × Passed (take n pool) asks (inTrail late x d) start (walking holdings out list) k
+    let order = byKeys duties n keys in
+    (k ≤ n) × Passed order (askAt asks keys) (inTrail late x d) start (walking holdings out list) k
 
 abbrev μ-loop : tie.MeasureT-loop
-μ-loop n x d late holdings₀ list₀ pool asks out₀ k₀ holdings list out k = n - k
+μ-loop keys n x d late holdings₀ list₀ duties asks out₀ k₀ holdings list out k = n - k
 
--- in a turn, the duty at place k is one of the first n
+-- in a turn, the key at place k is one of the first n
 within :
     (c : tie.In-loop Inv-loop μ-loop) →
-    let s = c .before .before .before .args in
-    (c .before .loop .k < min (s .n) (length (s .t1))) × (length (s .t1) ≡ maxDuties)
+    let s = c .before .before .before .before .args in
+    (c .before .loop .k < s .n) × (c .before .loop .k < length (s .keys .now))
 within c =
-    let s = c .before .before .before .args in
-    let long : length (s .t1) ≡ maxDuties = search needs in
-    (in-turn (s .t1) (s .n) (c .before .loop .k) long (c .loop-test .taken), long)
+    let s = c .before .before .before .before .args in
+    goes-on (c .before .loop .k) (s .n) (length (s .keys .now)) (c .loop-test .taken)
 
 loop-holds : tie.Need-loop-holds Inv-loop μ-loop
 loop-holds c = (search needs, begun)
 
+mul-place : tie.Need-mul-place Inv-loop μ-loop
+mul-place c = let h = within c in search needs
+
+shared-slice-read-place : tie.Need-shared-slice-read-place Inv-loop μ-loop
+shared-slice-read-place c = let h = within (c .before) in search needs
+
+rem-place : tie.Need-rem-place Inv-loop μ-loop
+rem-place c = search needs
+
 mul-y : tie.Need-mul-y Inv-loop μ-loop
-mul-y c = let h = within c in search needs
+mul-y c = search needs
 
 array-copy-out-y : tie.Need-array-copy-out-y Inv-loop μ-loop
-array-copy-out-y c = let h = within c in search needs
+array-copy-out-y c = search needs
 
 in-trail-requires : tie.Need-in-trail-requires Inv-loop μ-loop
 in-trail-requires c κs = search needs
 
 mul-ask : tie.Need-mul-ask Inv-loop μ-loop
-mul-ask c = let h = within (c .before .before .before) in search needs
+mul-ask c = search needs
 
 array-copy-out-ask : tie.Need-array-copy-out-ask Inv-loop μ-loop
-array-copy-out-ask c = let h = within (c .before .before .before) in search needs
+array-copy-out-ask c = search needs
 
 do-one-requires : tie.Need-do-one-requires Inv-loop μ-loop
 do-one-requires c κs = search needs
 
 add-k : tie.Need-add-k Inv-loop μ-loop
-add-k c = let h = within (c .before .before .before) in search needs
+add-k c = let h = within (c .before .before .before .before) in search needs
 
 loop-less : tie.Need-loop-less Inv-loop μ-loop
-loop-less c = let h = within (c .before .before .before) in search needs
+loop-less c = let h = within (c .before .before .before .before) in search needs
 
 loop-again : tie.Need-loop-again Inv-loop μ-loop
 loop-again c =
-    let turn = c .before .before .before in
-    let s = turn .before .before .before .args in
+    let turn = c .before .before .before .before in
+    let s = turn .before .before .before .before .args in
     let l = turn .before .loop in
     let h = within turn in
-    let room : l .k < length (take (s .n) (s .t1)) = rw length-take (h .0) in
-    let is = getD-take (s .n) (s .t1) (l .k) noDuty (omega arith) in
+    let room : l .k < length (byKeys (s .t1) (s .n) (s .keys .now)) = rw as-many (omega arith) in
+    let is = at-key (s .t1) (s .n) (s .keys .now) (l .k) (h .0) (h .1) in
     let test = sym (c .before .in-trail .ensures) in
     ⊎-elim
     (λ w. (
@@ -85,10 +93,10 @@ same-length c = c .before .loop .inv .1 .long
 
 returns : tie.Need-returns Inv-loop μ-loop
 returns c =
-    let s = c .before .before .before .args in
+    let s = c .before .before .before .before .args in
     let l = c .before .loop in
-    let long : length (s .t1) ≡ maxDuties = search needs in
-    part-done (rw length-take (at-end (s .t1) (s .n) (l .k) long (c .loop-test .left))) (l .inv .1)
+    let end = at-end (s .keys .now) (s .n) (l .k) refl (c .loop-test .left) in
+    part-done (rw as-many end) (l .inv .1)
 
 pub do-part-spec : {M : Type 1} → statement M
 do-part-spec =
@@ -97,6 +105,9 @@ do-part-spec =
     Inv-loop
     μ-loop
     loop-holds
+    mul-place
+    shared-slice-read-place
+    rem-place
     mul-y
     array-copy-out-y
     in-trail-requires

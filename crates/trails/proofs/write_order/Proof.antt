@@ -21,16 +21,17 @@ place-of-requires-2 c κs = search needs
 
 returns : tie.Need-returns
 returns c =
-    let s = c .before .before .before .before .args in
+    let s = c .before .before .before .before .before .args in
     let x-at = c .before .before .place-of in
-    missing (x-at .ensures) (c .before .place-of2 .ensures) (c .if1 .taken) (s .t2) (s .holdings) _ _ _
+    missing (x-at .ensures) (c .before .place-of2 .ensures) (s .t2) (s .keys .now) (s .holdings) _
+    (c .if1 .taken) _ _
 
 -- past the test, the two places are in the array
 within :
     (c : tie.Else1)
     → (c .before .before .place-of .result < maxDuties) × (c .before .place-of2 .result < maxDuties)
 within c =
-    let s = c .before .before .before .before .args in
+    let s = c .before .before .before .before .before .args in
     let x-at = c .before .before .place-of in
     let d-at = c .before .place-of2 in
     let bounds = or-false (leb (s .n) (x-at .result)) (leb (s .n) (d-at .result)) (c .if1 .left) in
@@ -43,25 +44,25 @@ mul-x : tie.Need-mul-x
 mul-x c = let h = within c in search needs
 
 array-copy-out-x : tie.Need-array-copy-out-x
-array-copy-out-x c = within c .0
+array-copy-out-x c = let h = within c in search needs
 
 mul-d : tie.Need-mul-d
 mul-d c = let h = within (c .before) in search needs
 
 array-copy-out-d : tie.Need-array-copy-out-d
-array-copy-out-d c = within (c .before) .1
+array-copy-out-d c = let h = within (c .before) in search needs
 
 mul-x-ask : tie.Need-mul-x-ask
 mul-x-ask c = let h = within (c .before .before) in search needs
 
 array-copy-out-x-ask : tie.Need-array-copy-out-x-ask
-array-copy-out-x-ask c = within (c .before .before) .0
+array-copy-out-x-ask c = let h = within (c .before .before) in search needs
 
 mul-d-ask : tie.Need-mul-d-ask
 mul-d-ask c = let h = within (c .before .before .before) in search needs
 
 array-copy-out-d-ask : tie.Need-array-copy-out-d-ask
-array-copy-out-d-ask c = within (c .before .before .before) .1
+array-copy-out-d-ask c = let h = within (c .before .before .before) in search needs
 
 do-part-requires : tie.Need-do-part-requires
 do-part-requires c κs = search needs
@@ -85,18 +86,19 @@ returns-2 c =
     let second = third .before .before .before .before .before in
     let first = second .before .before .before .before .before in
     let found = first .before .before .before .before .before .before .before in
-    let s = found .before .before .before .before .args in
-    let lent₁ = first .do-part .last .1 .1 .1 .1 .1 .1 .1 in
+    let s = found .before .before .before .before .before .args in
+    let lent₁ = first .do-part .last .1 .1 .1 .1 .1 .1 .1 .1 in
     let lent₂ = second .do-one .last .1 .1 .1 in
-    let lent₃ = third .do-part2 .last .1 .1 .1 .1 .1 .1 .1 in
+    let lent₃ = third .do-part2 .last .1 .1 .1 .1 .1 .1 .1 .1 in
     let lent₄ = last .do-one2 .last .1 .1 .1 in
     walked
     (found .before .before .place-of .ensures)
     (found .before .place-of2 .ensures)
-    (found .if1 .left)
     (s .t2)
+    (s .keys .now)
     (s .holdings)
     (s .list .now)
+    (found .if1 .left)
     (walking (lent₁ .0) (first .do-part .result) (lent₁ .1 .0))
     (walking (lent₂ .0) (second .do-one .result) (lent₂ .1 .0))
     (walking (lent₃ .0) (third .do-part2 .result) (lent₃ .1 .0))

@@ -83,7 +83,7 @@ loop-holds c =
     let s = c .before .before .before .args in (
       search needs,
       ready (c .before .before .setters-of .ensures) (search needs) (c .users-of .ensures),
-      table-starts,
+      table-starts (search needs),
       starts (s .holdings .now) (take (s .n) (s .t1)) (s .t2),
     )
 

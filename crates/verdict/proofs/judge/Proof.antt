@@ -53,6 +53,9 @@ returns-2 c whole room =
 in-order-requires : tie.Need-in-order-requires
 in-order-requires c κs = search needs
 
+slice-aggregate-write-order : tie.Need-slice-aggregate-write-order
+slice-aggregate-write-order c = search needs
+
 write-order-requires : tie.Need-write-order-requires
 write-order-requires c κs = search needs
 
@@ -62,16 +65,17 @@ same-length c = search needs
 returns-3 : tie.Need-returns-3
 returns-3 c whole room =
     let walked = c .before .before in
-    let arranged = walked .before .before .before .before in
+    let arranged = walked .before .before .before in
     let known = arranged .before .before in
     let searched = known .before .before in
     let asks = asked searched in
     let s = start asks in
+    let serials = known .trouble .given .0 in
     let found = rw (known .trouble .given .1) at (searched .trouble-of .ensures) in
     inr
-    (found-red (s .args .b) (size s) whole (asks .asks-of .result) (asks .asks-of .ensures whole) _ _ found
-    (arranged .in-order .result) (arranged .in-order .ensures) _ _ (walked .write-order .result) room
-    (walked .write-order .ensures))
+    (found-red (s .args .b) (size s) whole (asks .asks-of .result) (asks .asks-of .ensures whole)
+    (serials .0 .0) (serials .1 .0 .0) found (arranged .in-order .result) (arranged .in-order .ensures) _ _
+    (walked .write-order .result) room (walked .write-order .ensures))
 
 pub judge-spec : {M : Type 1} → statement M
 judge-spec =
@@ -85,6 +89,7 @@ judge-spec =
     enum-told
     returns-2
     in-order-requires
+    slice-aggregate-write-order
     write-order-requires
     same-length
     returns-3)
