@@ -264,7 +264,7 @@ impl Answer {
     }
 }
 
-// The lesser of a count and the room of its array.
+// The lesser of a number and the room for it.
 pub fn within(count: usize, room: usize) -> usize
     ensures { λ r. ⌜ r ≡ min count room ⌝ }
 {

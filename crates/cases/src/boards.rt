@@ -1,7 +1,6 @@
 // Document 01's small boards 1 to 11 as files. User 0 holds role 0; user 1 holds nothing unless said. Use of
 // action 2 on object 0 needs role 1. Role 0 assigns and revokes role 1 without condition. Serials from 1 in
 // the order given. Clock 0.
-use crate::bytes::lesser;
 use crate::bytes::put_halves;
 use crate::wanted::Wanted;
 use crate::wanted::plainly;
@@ -261,5 +260,5 @@ pub(crate) fn file_of(board: Small, s: &mut [u8]) -> usize
     put_header(s, board);
     put_rights(s, board);
     put_duties(s, board);
-    lesser(total(board) as usize, s.len())
+    board::within(total(board) as usize, s.len())
 }

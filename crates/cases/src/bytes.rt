@@ -1,5 +1,4 @@
 // Numbers put into the bytes of a board file, low byte first. Nothing is put past the end.
-ghost use Prim.Native.Nat.{_≤_};
 
 // The lowest byte of a number.
 fn low(number: u32) -> u8 {
@@ -13,17 +12,10 @@ fn put_byte(s: &mut [u8], at: usize, number: u32) {
     }
 }
 
-// The lesser of two.
-pub(crate) fn lesser(a: usize, b: usize) -> usize
-    ensures { λ r. ⌜ (r ≤ a) × (r ≤ b) ⌝ }
-{
-    if a < b { a } else { b }
-}
-
 // Put halves of two bytes each, one after the other, so far from the start; no record has more than 20.
 pub(crate) fn put_halves(s: &mut [u8], at: u16, halves: &[u32]) {
     let first = at as usize;
-    let count = lesser(halves.len(), 20);
+    let count = board::within(halves.len(), 20);
     let mut i: usize = 0;
     while i < count {
         let half = halves[i];

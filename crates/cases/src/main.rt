@@ -15,7 +15,6 @@ use boards::Small;
 use boards::board_of;
 use boards::file_of;
 use boards::opening_of;
-use bytes::lesser;
 use lent_once::Left;
 use steps::Ask;
 use steps::Case;
@@ -46,7 +45,7 @@ fn print_answer(answer: Answer, list: &[u32]) {
     number(answer.number as u64);
     number(serial.0 as u64);
     number(answer.length as u64);
-    let count = lesser(answer.length, list.len());
+    let count = board::within(answer.length, list.len());
     let mut i: usize = 0;
     while i < count {
         print_serial(list[i]);

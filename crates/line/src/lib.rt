@@ -94,18 +94,11 @@ fn put_line(out: &mut [u8; ROOM], word: &[u8], number: u64, list: &[u32], n: usi
     put(out, end, b"\n")
 }
 
-// The lesser of two numbers.
-fn lesser(a: usize, b: usize) -> usize
-    ensures { λ r. ⌜ r ≡ min a b ⌝ }
-{
-    if a < b { a } else { b }
-}
-
 // How many serials are shown: as many as the answer says, and no more than 128 and than there are.
 fn shown(n: usize, list: &[u32]) -> usize
     ensures { λ r. ⌜ r ≡ min (min n maxDuties) (length (now (list .entry))) ⌝ }
 {
-    lesser(lesser(n, Board::DUTIES), list.len())
+    board::within(board::within(n, Board::DUTIES), list.len())
 }
 
 // Write the line for an answer, with the number of duties of the board and the lent list, to the start of

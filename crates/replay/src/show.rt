@@ -11,14 +11,6 @@ use board::Board;
 use board::Duty;
 use board::What;
 use session::LENT;
-ghost use Prim.Native.Nat.{_≤_};
-
-// The lesser of two.
-fn lesser(a: usize, b: usize) -> usize
-    ensures { λ r. ⌜ (r ≤ a) × (r ≤ b) ⌝ }
-{
-    if a < b { a } else { b }
-}
 
 // ---- answers
 
@@ -29,7 +21,7 @@ fn put_entry(out: &mut [u8; ROOM], at: usize, entry: u32) -> usize {
 
 // Put the first n numbers of a list, each after a space, and end the line.
 fn put_list(out: &mut [u8; ROOM], at: usize, list: &[u32], n: usize) -> usize {
-    let count = lesser(n, list.len());
+    let count = board::within(n, list.len());
     let mut here = at;
     let mut i: usize = 0;
     while i < count {
@@ -73,7 +65,7 @@ pub(crate) fn put_answer(
 
 // Put the first n bytes in hexadecimal.
 fn put_bytes(out: &mut [u8; ROOM], at: usize, bytes: &[u8], n: usize) -> usize {
-    let count = lesser(n, bytes.len());
+    let count = board::within(n, bytes.len());
     let mut here = at;
     let mut i: usize = 0;
     while i < count {
@@ -173,7 +165,7 @@ fn put_duty(out: &mut [u8; ROOM], at: usize, d: Duty) -> usize {
 // Put the duties, in the order in which the board keeps them.
 fn put_duties(out: &mut [u8; ROOM], at: usize, board: Board) -> usize {
     let duties = board.duties;
-    let count = lesser(board.counts.duties as usize, Board::DUTIES);
+    let count = board::within(board.counts.duties as usize, Board::DUTIES);
     let mut here = at;
     let mut i: usize = 0;
     while i < count {

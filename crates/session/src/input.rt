@@ -3,7 +3,7 @@
 use crate::LENT;
 use crate::Record;
 ghost use mathlib.Core.Path.{_≡_};
-ghost use Prim.Native.Nat.{_≤_, _<_, min};
+ghost use Prim.Native.Nat.{_≤_, _<_};
 ghost use lib.ListN.{length, getD};
 ghost use Rattle.layout.specs.Bytes.{two, four};
 ghost use Rattle.session.specs.Input.{fileStart, fileEnd, recordAt, lentBy};
@@ -51,18 +51,11 @@ fn four_at(s: &[u8], at: u8) -> u32
     low + high * 65536
 }
 
-// The lesser of two.
-fn lesser(a: usize, b: usize) -> usize
-    ensures { λ r. ⌜ (r ≡ min a b) × ((r ≤ a) × (r ≤ b)) ⌝ }
-{
-    if a < b { a } else { b }
-}
-
 // Where the board file starts: at the end of an input that is too short to say its length.
 pub fn file_start(s: &[u8]) -> usize
     ensures { λ r. ⌜ (r ≡ fileStart (now (s .entry))) × (r ≤ length (now (s .entry))) ⌝ }
 {
-    lesser(BEFORE, s.len())
+    board::within(BEFORE, s.len())
 }
 
 // Where the board file ends.
@@ -72,7 +65,7 @@ pub fn file_end(s: &[u8]) -> usize
 {
     let start = file_start(s);
     let said = four_at(s, 0) as usize;
-    start + lesser(said, s.len() - start)
+    start + board::within(said, s.len() - start)
 }
 
 // The record at the start of these bytes.
@@ -109,5 +102,5 @@ pub fn record_of(s: &[u8]) -> Record
 pub fn lent_by(lent: u16) -> usize
     ensures { λ r. ⌜ (r ≡ lentBy lent) × (r ≤ 256) ⌝ }
 {
-    lesser(lent as usize, LENT)
+    board::within(lent as usize, LENT)
 }

@@ -6,7 +6,6 @@ use board::Answer;
 use board::Board;
 use orders::MOST_LINES;
 use orders::empty;
-use orders::lesser;
 use orders::show_rest;
 
 // Print a word and a number as a line.
@@ -28,7 +27,7 @@ fn print_count(orders: u32) {
 fn print_failing(length: usize, list: [u32; Board::DUTIES]) {
     io::write_all(1, b"no ");
     io::print_decimal(1, length as u64);
-    let count = lesser(length, Board::DUTIES);
+    let count = board::within(length, Board::DUTIES);
     let mut i: usize = 0;
     while i < count {
         io::write_all(1, b" ");

@@ -2,7 +2,6 @@
 // permitted when its turn comes; else it ends with the first that is not, and `no`.
 use board::Board;
 use board::Serial;
-ghost use Prim.Native.Nat.{_≤_};
 
 // No more orders are printed; the rest is only counted.
 pub(crate) const MOST_LINES: u32 = 5000;
@@ -11,13 +10,6 @@ pub(crate) const MOST_LINES: u32 = 5000;
 pub(crate) struct Order {
     pub serials: [u32; plain::MOST],
     pub length: usize,
-}
-
-// The lesser of two.
-pub(crate) fn lesser(a: usize, b: usize) -> usize
-    ensures { λ r. ⌜ (r ≤ a) × (r ≤ b) ⌝ }
-{
-    if a < b { a } else { b }
 }
 
 // No duty is done.
@@ -43,7 +35,7 @@ fn with_next(order: Order, serial: Serial) -> Order {
 // Print the serials of an order, each with a space behind it.
 fn print_serials(order: Order) {
     let serials = order.serials;
-    let count = lesser(order.length, plain::MOST);
+    let count = board::within(order.length, plain::MOST);
     let mut i: usize = 0;
     while i < count {
         io::print_decimal(1, serials[i] as u64);
@@ -77,7 +69,7 @@ pub(crate) fn show_rest(b: Board, left: usize, done: Order, so_far: u32) -> u32 
     }
     let n = b.counts.duties as usize;
     let duties = b.duties;
-    let count = lesser(n, Board::DUTIES);
+    let count = board::within(n, Board::DUTIES);
     let mut shown = so_far;
     let mut i: usize = 0;
     while i < count {

@@ -11,8 +11,8 @@ Inv-loop out₀ at bytes n count here₀ i₀ out here i = (i ≤ count) × (cou
 abbrev μ-loop : tie.MeasureT-loop
 μ-loop out₀ at bytes n count here₀ i₀ out here i = count - i
 
-lesser-requires : tie.Need-lesser-requires Inv-loop μ-loop
-lesser-requires c κs = search needs
+within-requires : tie.Need-within-requires Inv-loop μ-loop
+within-requires c κs = search needs
 
 loop-holds : tie.Need-loop-holds Inv-loop μ-loop
 loop-holds c = search needs
@@ -41,7 +41,7 @@ put-bytes-spec =
     (tie.spec
     Inv-loop
     μ-loop
-    lesser-requires
+    within-requires
     loop-holds
     shared-slice-read-byte
     put-hex-requires

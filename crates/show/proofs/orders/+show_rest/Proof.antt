@@ -8,7 +8,7 @@ use borrow.Fn.PlainCycle.{Measures, is, falls, and}
 use Rattle.acts.proofs.permitted.Reads as permitted
 use Rattle.after.proofs.did.Reads as did
 use Rattle.pool.proofs.is_held_back.Reads as is-held-back
-use Rattle.show.proofs.orders.lesser.Reads as lesser
+use Rattle.board.proofs.within.Reads as within
 use Rattle.show.proofs.orders.with_next.Reads as with-next
 use Rattle.show.proofs.orders.with_order.Reads as with-order
 use Rattle.show.proofs.orders.show_rest.Reads as show-rest
@@ -37,8 +37,8 @@ abbrev claims : ℕ → lts.Claims
 claims t = (
   with-order.Asked,
   with-order.Learnt,
-  lesser.Asked,
-  lesser.Learnt,
+  within.Asked,
+  within.Learnt,
   is-held-back.Asked,
   is-held-back.Learnt,
   with-next.Asked,
