@@ -1,7 +1,7 @@
 #!/usr/bin/env python3
 """replay_random.py [SESSIONS [SEED [PROGRAM]]]: random sessions through the program `replay`, every line
 compared with the model of live_model.py; failing orders are checked for truth. 2,000 sessions with seed 1,
-and target/bin/replay, where left out (`rt check replay` builds it). Not in the gate. Needs Python 3 alone."""
+and the program as bin/run-program builds and runs it, where left out. Not in the gate."""
 import collections
 import os
 import random
@@ -174,12 +174,12 @@ def session(draw):
 
 def main():
     count, seed = (int(word) for word in (sys.argv[1:3] + ['2000', '1'][len(sys.argv[1:3]):]))
-    program = sys.argv[3] if len(sys.argv) > 3 else os.path.join(HERE, '..', 'target', 'bin', 'replay')
+    program = sys.argv[3:4] or [os.path.join(HERE, '..', 'bin', 'run-program'), 'replay']
     draw, numbers, openings = random.Random(seed), collections.Counter(), collections.Counter()
     lines = orders = longest = wrong = 0
     for i in range(count):
         whole = session(draw)
-        told = subprocess.run([program], input=whole, stdout=subprocess.PIPE, check=True).stdout
+        told = subprocess.run(program, input=whole, stdout=subprocess.PIPE, check=True).stdout
         expected, printed = model.replayed(whole), told.decode('ascii').split('\n')
         bad = [(e.words, p) for e, p in zip(expected, printed) if not e.fits(p)]
         if bad or len(printed) != len(expected) + 1 or printed[-1] != '':
