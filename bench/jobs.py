@@ -61,17 +61,17 @@ class Line:
         return '%d, order of %d' % (RED, len(self.order)) if self.number == RED else str(self.number)
 
 
-def compared(job, proved, plain):
+def compared(job, proved, rust):
     """Whether the two lines are the same word for word. Where only the failing orders differ (any true one is
     right: rule 12.2) both have to be true ones; every other difference is an error."""
-    a, b = Line(proved), Line(plain)
+    a, b = Line(proved), Line(Rust)
     same = (a.number, a.serial, a.rest) == (b.number, b.serial, b.rest)
     if same and a.number == RED:
         after = job.after()
         same = after.fails(a.order) and after.fails(b.order)
     if not same:
-        raise Difference('%s: the library answers %s, the plain one %s' % (CALLS[job.kind], proved, plain))
-    return proved == plain
+        raise Difference('%s: the library answers %s, the Rust one %s' % (CALLS[job.kind], proved, rust))
+    return proved == rust
 
 
 class Program:
@@ -132,11 +132,11 @@ class Pair:
     """One job, made by both programs in turn. A time is the median of the runs; a ratio is the median of the
     ratios of runs that stood beside each other, since a machine is faster at one time than at another."""
 
-    def __init__(self, job, proved, plain):
-        lines = proved.line(job), plain.line(job)
+    def __init__(self, job, proved, rust):
+        lines = proved.line(job), rust.line(job)
         compared(job, *lines)
         self.answer = Line(lines[0]).answer()
-        self.samples = Sample(proved, job), Sample(plain, job)
+        self.samples = Sample(proved, job), Sample(rust, job)
 
     def run(self):
         for sample in self.samples:
@@ -153,9 +153,9 @@ def ratio(sample, other):
     return statistics.median(a / b for a, b in zip(sample.each, other.each))
 
 
-def measured(jobs, proved, plain):
+def measured(jobs, proved, rust):
     """The jobs as pairs, with their runs in turn."""
-    pairs = [Pair(job, proved, plain) for job in jobs]
+    pairs = [Pair(job, proved, rust) for job in jobs]
     for _ in range(RUNS):
         for pair in pairs:
             pair.run()

@@ -15,17 +15,17 @@ SIZES = (8, 16, 32, 64, 128)
 class Bench:
     def __init__(self, folder):
         self.proved = jobs.Program(folder, 'proved-calls')
-        self.plain = jobs.Program(folder, 'plain-calls')
+        self.rust = jobs.Program(folder, 'rust-calls')
         self.ratios = {True: [], False: []}
         self.count = 0
 
     def is_green(self, board):
-        return Line(self.plain.line(Job(CHECK, board))).number == 0
+        return Line(self.rust.line(Job(CHECK, board))).number == 0
 
     def best(self, candidates):
         """The candidate that goes the longest way: one that is accepted, or else one denied by 8."""
         for wanted in (0, jobs.RED):
-            for job, line in zip(candidates, self.plain.lines(candidates)):
+            for job, line in zip(candidates, self.rust.lines(candidates)):
                 if Line(line).number == wanted:
                     return job
         return candidates[0]
@@ -34,7 +34,7 @@ class Bench:
         """Jobs of one call, measured together."""
         self.count += 1
         say('%d: %s, %s' % (self.count, name, jobs.CALLS[together[0].kind]))
-        return jobs.measured(together, self.proved, self.plain)
+        return jobs.measured(together, self.proved, self.rust)
 
     def note(self, counts, pair, name, job):
         """Remember a ratio, of a full board or of a small one."""
@@ -42,9 +42,9 @@ class Bench:
 
     def put_back(self, board):
         """Measures putting the board back, which is taken off the times of the calls that change it."""
-        pair, = jobs.measured([Job(PUT_BACK, board)], self.proved, self.plain)
-        self.proved.put_back, self.plain.put_back = pair.nanoseconds()
-        print('\nPutting the board back takes %.0f ns (library) and %.0f ns (plain); it is taken off the '
+        pair, = jobs.measured([Job(PUT_BACK, board)], self.proved, self.rust)
+        self.proved.put_back, self.rust.put_back = pair.nanoseconds()
+        print('\nPutting the board back takes %.0f ns (library) and %.0f ns (Rust); it is taken off the '
               'times of admit, act, do and withdraw.' % pair.nanoseconds())
 
 
@@ -103,7 +103,7 @@ def head(*titles):
 
 
 def call_table(bench, rows, counts):
-    head('board', 'call', 'answer', 'library ns', 'plain ns', 'ratio')
+    head('board', 'call', 'answer', 'library ns', 'Rust ns', 'ratio')
     for name, calls in rows:
         shown = name
         for job in calls:
@@ -117,7 +117,7 @@ def call_table(bench, rows, counts):
 def growth_table(bench, name, board_of):
     """Times over the number of duties; answers how much they grow at most when it doubles, of both."""
     print('\n### Growth: %s' % name)
-    head('call', *('%d duties' % n for n in SIZES), 'greatest factor of library, plain')
+    head('call', *('%d duties' % n for n in SIZES), 'greatest factor of library, Rust')
     most = [0, 0]
     for call in zip(*(six_calls(bench, board_of(n)) for n in SIZES)):
         pairs = bench.measure('growth, ' + name, call)
@@ -158,8 +158,8 @@ def main():
     folder, words = sys.argv[1], sys.argv[2:]
     bench = Bench(folder)
     say('comparing random calls')
-    print('# Speed of the library beside plain Rust')
-    random_jobs.compare(bench.proved, bench.plain)
+    print('# Speed of the library beside Rust')
+    random_jobs.compare(bench.proved, bench.rust)
     if words:
         return
     bench.put_back(boards.worst())
@@ -170,7 +170,7 @@ def main():
     call_table(bench, [('worst, clock below its own; not good', refusals_on(boards.worst()))], True)
     print('\n## Small boards')
     call_table(bench, [(name, six_calls(bench, board)) for name, board in small_boards()], False)
-    print('\n## Growth over 8, 16, 32, 64, 128 duties\n\nFull tables; library ns / plain ns. Each call is '
+    print('\n## Growth over 8, 16, 32, 64, 128 duties\n\nFull tables; library ns / Rust ns. Each call is '
           'made on the same board again and again: where its tests cannot be foreseen (worst), the processor '
           'may learn how they come out on a board of 64 duties and not on one of 128.')
     growth = [growth_table(bench, 'revokes, one grant that heals, uses', boards.heal),
@@ -183,7 +183,7 @@ def main():
         ratio, name, _ = max(row for row in bench.ratios[True] if row[2] == call)
         print('- %s: %.2f (%s)' % (call, ratio, name))
     print()
-    print('greatest growth when the duties double: library %.2f, plain %.2f'
+    print('greatest growth when the duties double: library %.2f, Rust %.2f'
           % tuple(max(g[i] for g in growth) for i in (0, 1)))
     print('worst ratio on small boards %.2f' % max(bench.ratios[False])[0])
     print('worst ratio %.2f' % max(bench.ratios[True])[0])

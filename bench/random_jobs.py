@@ -54,12 +54,12 @@ def nearly_green(dice):
     return board
 
 
-def compare(proved, plain, seed=2011):
+def compare(proved, rust, seed=2011):
     dice = random.Random(seed)
     made = [random_job(dice, boards.random_small(dice)) for _ in range(SMALL)]
     made += [random_job(dice, nearly_green(dice) if i % 4 else boards.random_full(dice)) for i in range(FULL)]
     numbers, others = {}, 0
-    for job, a, b in zip(made, proved.lines(made), plain.lines(made)):
+    for job, a, b in zip(made, proved.lines(made), rust.lines(made)):
         others += not jobs.compared(job, a, b)
         number = jobs.Line(a).number
         numbers[number] = numbers.get(number, 0) + 1

@@ -1,18 +1,18 @@
-"""Bytes of machine code of the library beside the plain one. Counted are the functions in objects from which
+"""Bytes of machine code of the library beside the Rust one. Counted are the functions in objects from which
 the six calls and reading a file can be called and nothing else: all that the library needs, without the
 program around it, the C library or memcpy. A function that was inlined counts where it was inlined; so the
-parts say where the code stands, and only the sums can be compared. What the plain one takes from Rust's core
+parts say where the code stands, and only the sums can be compared. What the Rust one takes from Rust's core
 is nearly all sorting, for the failing order."""
 import os
 import re
 import subprocess
 
-OBJECTS = (('library -O3', 'library.o'), ('plain -O3', 'plain-O3.o'), ('plain -Os', 'plain-Os.o'))
+OBJECTS = (('library -O3', 'library.o'), ('Rust -O3', 'rust-O3.o'), ('Rust -Os', 'rust-Os.o'))
 
 
 def part_of(name):
-    """The crate of the library, or the module of the plain one, that a function belongs to."""
-    found = re.match(r'plain::(\w+)', name) or re.match(r'<*&?(\w+)::', name)
+    """The crate of the library, or the module of the Rust one, that a function belongs to."""
+    found = re.match(r'rust::(\w+)', name) or re.match(r'<*&?(\w+)::', name)
     return 'core' if found is None or '<' in name else found.group(1)
 
 
@@ -34,7 +34,7 @@ def table(folder):
             parts[part] = parts.get(part, 0) + size
         sizes.append(parts)
     print('\n## Bytes of machine code')
-    print('\nBy crate of the library and module of the plain one; what is inlined counts where it stands.')
+    print('\nBy crate of the library and module of the Rust one; what is inlined counts where it stands.')
     print('\n| part | ' + ' | '.join(title for title, _ in OBJECTS) + ' |')
     print('|---|' + '---|' * len(OBJECTS))
     for part in sorted(set().union(*sizes), key=lambda part: (part == 'core', part)):

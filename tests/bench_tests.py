@@ -1,4 +1,4 @@
-"""That bench/run builds, and that the library and the plain Rust one answer random calls alike."""
+"""That bench/run builds, and that the library and the Rust one answer random calls alike."""
 import os
 import unittest
 

@@ -22,28 +22,30 @@ use Rattle.after.proofs.FitsLaws.{acted-fits}
 use Rattle.outcomes.specs.declared.Outcome.{Outcome}
 use Rattle.outcomes.specs.Outcomes.{Flagged, refusedWith, Judges}
 use Rattle.outcomes.proofs.Judging.{refused-called, refused-flagged, judged-called}
-use Rattle.requests.specs.declared.AskAct.{AskAct}
+use Rattle.requests.specs.declared.RequestAct.{RequestAct}
 use Rattle.requests.specs.Requests.{doingFits}
 use Rattle.act.specs.ActsNow.{whatNow, afterAct, actEarlier, ActsNow}
 
 -- ---- no earlier check applies
 
-module _ (b : Board) (size : Sized b) (room : ℕ) (q : AskAct) (none : NoneApplies (actEarlier b room q)) where
-  whole : good b ≡ true
-  whole = is-true (good b) (none .0)
+module _
+    (b : Board) (size : Sized b) (room : ℕ) (q : RequestAct) (none : NoneApplies (actEarlier b room q))
+  where
+    whole : good b ≡ true
+    whole = is-true (good b) (none .0)
 
-  what-fits : whatFits (b .counts .users) (b .counts .roles) (whatNow q) ≡ true
-  what-fits =
-      let fits = is-true (doingFits (b .counts .users) (b .counts .roles) (q .doer) (q .action) (q .first)
-      (q .second)) (none .1 .1 .1 .0) in
-      search (and-left, and-right)
+    what-fits : whatFits (b .counts .users) (b .counts .roles) (whatNow q) ≡ true
+    what-fits =
+        let fits = is-true (doingFits (b .counts .users) (b .counts .roles) (q .doer) (q .action) (q .first)
+        (q .second)) (none .1 .1 .1 .0) in
+        search (and-left, and-right)
 
-  pub fits-after : ViewFits (afterAct b q)
-  fits-after = acted-fits (view b) (view-fits b size whole) (q .clock) (whatNow q) what-fits
+    pub fits-after : ViewFits (afterAct b q)
+    fits-after = acted-fits (view b) (view-fits b size whole) (q .clock) (whatNow q) what-fits
 
 -- ---- what act promises
 
-module _ (b : Board) (size : Sized b) (before : List ℕ) (q : AskAct) (number : ℕ)
+module _ (b : Board) (size : Sized b) (before : List ℕ) (q : RequestAct) (number : ℕ)
     (answers : Answers (actEarlier b (length before) q) number) where
   pub refused-acts :
       (r : Outcome) → r ≡ refusedWith b number → (number ≡ answer.done → ⊥)

@@ -16,19 +16,19 @@ use Rattle.board.specs.Green.{Red, permittedNow}
 use Rattle.board.specs.Limits.{maxDuties}
 use Rattle.board.specs.Numbers as answer
 use Rattle.board.specs.View.{View, view}
-use Rattle.requests.specs.declared.AskAct.{AskAct}
+use Rattle.requests.specs.declared.RequestAct.{RequestAct}
 use Rattle.requests.specs.Requests.{doingFits}
 
 -- what is to be done now
-abbrev pub whatNow : AskAct → What
+abbrev pub whatNow : RequestAct → What
 whatNow q = whatOf (q .action) (q .first) (q .second)
 
 -- the board says this after an accepted act: the change is made
-abbrev pub afterAct : Board → AskAct → View
+abbrev pub afterAct : Board → RequestAct → View
 afterAct b q = acted (view b) (q .clock) (whatNow q)
 
 -- 19, 9, 10, 11, 15
-abbrev pub actEarlier : Board → ℕ → AskAct → List Check
+abbrev pub actEarlier : Board → ℕ → RequestAct → List Check
 actEarlier b room q =
     check answer.broken (good b ≡ false)
     ∷ check answer.list (room < maxDuties)
@@ -39,10 +39,10 @@ actEarlier b room q =
     ∷ []
 
 -- Act: 19, 9, 10, 11, 15, 8.
-abbrev pub actChecks : Board → ℕ → AskAct → List Check
+abbrev pub actChecks : Board → ℕ → RequestAct → List Check
 actChecks b room q = actEarlier b room q ++ (check answer.red (Red (afterAct b q)) ∷ [])
 
 -- An act answers no serial.
-abbrev pub ActsNow : Board → List ℕ → AskAct → Answer → Board → List ℕ → Type 0
+abbrev pub ActsNow : Board → List ℕ → RequestAct → Answer → Board → List ℕ → Type 0
 ActsNow b before q r left after =
     Called (actChecks b (length before) q) b (afterAct b q) 0 before after r left

@@ -3,13 +3,13 @@ use board::Answer;
 use board::Board;
 use board::Serial;
 use outcomes::Outcome;
-use requests::AskAct;
+use requests::RequestAct;
 ghost use Rattle.board.specs.Answers.{Answers};
 ghost use Rattle.outcomes.specs.Outcomes.{Flagged};
 ghost use Rattle.act.specs.ActsNow.{actEarlier, ActsNow};
 
 // 19, 9, 10, 11, 15, or 0 where none of these applies.
-fn refusal(b: Board, room: usize, q: AskAct) -> u8
+fn refusal(b: Board, room: usize, q: RequestAct) -> u8
     ensures { λ r. ⌜ Answers (actEarlier b room q) r ⌝ }
 {
     if !values::is_good(b) {
@@ -26,14 +26,14 @@ fn refusal(b: Board, room: usize, q: AskAct) -> u8
         return Answer::REQUEST;
     }
     let what = records::what_of(q.action, q.first, q.second);
-    if !acts::permitted(b, q.doer, what) {
+    if !permitted::permitted(b, q.doer, what) {
         return Answer::NOT_PERMITTED;
     }
     Answer::DONE
 }
 
 // Act: 19, 9, 10, 11, 15, 8.
-pub fn act(b: Board, list: &mut [u32], q: AskAct) -> Outcome
+pub fn act(b: Board, list: &mut [u32], q: RequestAct) -> Outcome
     ensures { λ r. ⌜ ActsNow b (now (list .entry)) q (r .answer) (r .board) (now (list .exit)) × Flagged r ⌝ }
 {
     let number = refusal(b, list.len(), q);

@@ -27,7 +27,7 @@ use Rattle.after.proofs.FitsLaws.{NewFits, admitted-fits}
 use Rattle.outcomes.specs.declared.Outcome.{Outcome}
 use Rattle.outcomes.specs.Outcomes.{Flagged, refusedWith, Judges}
 use Rattle.outcomes.proofs.Judging.{refused-called, refused-flagged, judged-called}
-use Rattle.requests.specs.declared.AskAdmit.{AskAdmit}
+use Rattle.requests.specs.declared.RequestAdmit.{RequestAdmit}
 use Rattle.requests.specs.Requests.{doingFits, asked}
 use Rattle.admit.specs.Admits.{afterAdmit, admitEarlier, Admits}
 
@@ -37,7 +37,7 @@ module _ (b : Board) (size : Sized b) (is-good : good b ≡ true)
     (few : length (view b .duties) < maxDuties) where
   -- the code's board, field by field, is the one that says `admitted`
   pub added :
-      (q : AskAdmit) (d : Duty) → d ≡ withSerial (b .next .0) (asked q)
+      (q : RequestAdmit) (d : Duty) → d ≡ withSerial (b .next .0) (asked q)
       → record {
         counts =
             record {
@@ -88,7 +88,7 @@ module _ (b : Board) (size : Sized b) (is-good : good b ≡ true)
 
 -- ---- what admit promises
 
-module _ (b : Board) (size : Sized b) (before : List ℕ) (q : AskAdmit) (number : ℕ)
+module _ (b : Board) (size : Sized b) (before : List ℕ) (q : RequestAdmit) (number : ℕ)
     (answers : Answers (admitEarlier b (length before) q) number) where
   pub refused-admits :
       (r : Outcome) → r ≡ refusedWith b number → (number ≡ answer.done → ⊥)

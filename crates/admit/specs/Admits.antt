@@ -15,15 +15,15 @@ use Rattle.board.specs.Limits.{maxDuties, maxNext}
 use Rattle.board.specs.Numbers as answer
 use Rattle.board.specs.View.{View, view}
 use Rattle.board.specs.Windows.{windowFits, isOver}
-use Rattle.requests.specs.declared.AskAdmit.{AskAdmit}
+use Rattle.requests.specs.declared.RequestAdmit.{RequestAdmit}
 use Rattle.requests.specs.Requests.{doingFits, asked}
 
 -- the board says this after an accepted admission: the duty is added with the next serial
-abbrev pub afterAdmit : Board → AskAdmit → View
+abbrev pub afterAdmit : Board → RequestAdmit → View
 afterAdmit b q = admitted (view b) (q .clock) (asked q ∷ [])
 
 -- 19, 9, 10, 11, 7, 21, 16, 17
-abbrev pub admitEarlier : Board → ℕ → AskAdmit → List Check
+abbrev pub admitEarlier : Board → ℕ → RequestAdmit → List Check
 admitEarlier b room q =
     check answer.broken (good b ≡ false)
     ∷ check answer.list (room < maxDuties)
@@ -37,10 +37,10 @@ admitEarlier b room q =
     ∷ []
 
 -- Admit: 19, 9, 10, 11, 7, 21, 16, 17, 8.
-abbrev pub admitChecks : Board → ℕ → AskAdmit → List Check
+abbrev pub admitChecks : Board → ℕ → RequestAdmit → List Check
 admitChecks b room q = admitEarlier b room q ++ (check answer.red (Red (afterAdmit b q)) ∷ [])
 
 -- An accepted admission answers the next serial.
-abbrev pub Admits : Board → List ℕ → AskAdmit → Answer → Board → List ℕ → Type 0
+abbrev pub Admits : Board → List ℕ → RequestAdmit → Answer → Board → List ℕ → Type 0
 Admits b before q r left after =
     Called (admitChecks b (length before) q) b (afterAdmit b q) (b .next .0) before after r left

@@ -4,7 +4,7 @@ use board::Board;
 use board::Duty;
 use board::Serial;
 use outcomes::Outcome;
-use requests::AskAdmit;
+use requests::RequestAdmit;
 ghost use mathlib.Core.Path.{_≡_};
 ghost use mathlib.Core.Bool.{true};
 ghost use mathlib.Core.List.{[], _∷_};
@@ -21,7 +21,7 @@ ghost use Rattle.requests.specs.Requests.{asked};
 ghost use Rattle.admit.specs.Admits.{admitEarlier, Admits};
 
 // The duty asked for, with the serial.
-fn duty_asked(q: AskAdmit, serial: Serial) -> Duty
+fn duty_asked(q: RequestAdmit, serial: Serial) -> Duty
     ensures { λ r. ⌜ r ≡ withSerial (serial .0) (asked q) ⌝ }
 {
     let what = records::what_of(q.action, q.first, q.second);
@@ -35,7 +35,7 @@ fn duty_asked(q: AskAdmit, serial: Serial) -> Duty
 }
 
 // 19, 9, 10, 11, 7, 21, 16, 17, or 0 where none of these applies.
-fn refusal(b: Board, room: usize, q: AskAdmit) -> u8
+fn refusal(b: Board, room: usize, q: RequestAdmit) -> u8
     ensures { λ r. ⌜ Answers (admitEarlier b room q) r ⌝ }
 {
     if !values::is_good(b) {
@@ -71,7 +71,7 @@ fn refusal(b: Board, room: usize, q: AskAdmit) -> u8
 }
 
 // The board with the duty asked for added under the next serial, at the call's clock.
-fn with_duty(b: Board, q: AskAdmit) -> Board
+fn with_duty(b: Board, q: RequestAdmit) -> Board
     requires { ⌜ (good b ≡ true) × (length (view b .duties) < maxDuties) × (b .next .0 < maxNext) ⌝ }
     ensures { λ r. ⌜ r ≡ boardSaying (admitted (view b) (q .clock) (asked q ∷ [])) ⌝ }
 {
@@ -89,7 +89,7 @@ fn with_duty(b: Board, q: AskAdmit) -> Board
 }
 
 // Admit: 19, 9, 10, 11, 7, 21, 16, 17, 8.
-pub fn admit(b: Board, list: &mut [u32], q: AskAdmit) -> Outcome
+pub fn admit(b: Board, list: &mut [u32], q: RequestAdmit) -> Outcome
     ensures { λ r. ⌜ Admits b (now (list .entry)) q (r .answer) (r .board) (now (list .exit)) × Flagged r ⌝ }
 {
     let number = refusal(b, list.len(), q);

@@ -17,7 +17,7 @@ use Rattle.board.specs.View.{view}
 use Rattle.board.proofs.FillerLaws.{filler→beyond}
 use Rattle.board.proofs.GoodLaws.{good→filler}
 use Rattle.board.proofs.SayingLaws.{view-fits, saying-view}
-use Rattle.acts.proofs.Laws.{changed-length, changed-take, changed-drop}
+use Rattle.permitted.proofs.Laws.{changed-length, changed-take, changed-drop}
 use Rattle.after.specs.Boards.{actedBoard, withdrawnBoard}
 
 module _ (b : Board) (size : Sized b) (is-good : good b ≡ true) where

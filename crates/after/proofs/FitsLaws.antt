@@ -23,7 +23,7 @@ use Rattle.board.proofs.GoodLaws.{RecordsInRange, records→range, range→reco
 use Rattle.board.proofs.InRange.{DutyInRange}
 use Rattle.board.proofs.Rising.{Part}
 use Rattle.board.proofs.SayingLaws.{ViewFits}
-use Rattle.acts.proofs.Laws.{changed-length, changed-fits}
+use Rattle.permitted.proofs.Laws.{changed-length, changed-fits}
 
 -- ---- lists of duties
 

@@ -11,7 +11,7 @@ pub fn acted(b: Board, clock: u32, what: What) -> Board
     ensures { λ r. ⌜ r ≡ actedBoard b clock what ⌝ }
 {
     let mut holdings = b.holdings;
-    acts::make_change(&mut holdings, what);
+    permitted::make_change(&mut holdings, what);
     Board {
         clock,
         holdings,
@@ -46,7 +46,7 @@ pub fn did(b: Board, clock: u32, serial: Serial, what: What) -> Board
     let rest = pool::without_serial(all, count, serial);
     let others = rest.duties;
     let mut held = b.holdings;
-    acts::make_change(&mut held, what);
+    permitted::make_change(&mut held, what);
     let mut fewer = b.counts;
     fewer.duties = rest.count;
     Board {

@@ -80,7 +80,7 @@ fn carry(s: &[u8]) {
     let first = session::file_start(s);
     let end = session::file_end(s);
     let mut list = [0u32; Board::DUTIES];
-    let opening = calls::open(&s[first..end], &mut list);
+    let opening = open::open(&s[first..end], &mut list);
     if opening.answer.number != Answer::DONE {
         refuse(opening.answer.number);
         return;

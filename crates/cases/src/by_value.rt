@@ -24,7 +24,7 @@ pub(crate) fn called(b: Board, ask: Ask, list: &mut [u32]) -> Left {
 
 // Open a board file.
 pub(crate) fn open(s: &[u8], list: &mut [u32]) -> Left {
-    let opened = calls::open(s, list);
+    let opened = open::open(s, list);
     let answer = opened.answer;
     let board = opened.board;
     Left { answer, board }

@@ -6,17 +6,17 @@ use crate::wanted::plainly;
 use crate::wanted::red;
 use board::Answer;
 use board::Serial;
-use requests::AskAct;
-use requests::AskAdmit;
-use requests::AskDo;
-use requests::AskWithdraw;
+use requests::RequestAct;
+use requests::RequestAdmit;
+use requests::RequestDo;
+use requests::RequestWithdraw;
 
 // What a step asks for.
 pub(crate) enum Ask {
-    Admit(AskAdmit),
-    Act(AskAct),
-    Do(AskDo),
-    Withdraw(AskWithdraw),
+    Admit(RequestAdmit),
+    Act(RequestAct),
+    Do(RequestDo),
+    Withdraw(RequestWithdraw),
 }
 
 // A step and what document 01 says of it.
@@ -56,7 +56,7 @@ pub(crate) fn case_of(number: u8) -> Case {
 
 fn doing(serial: u32, clock: u32) -> Ask {
     let named = Serial(serial);
-    Ask::Do(AskDo {
+    Ask::Do(RequestDo {
         serial: named,
         clock,
     })
@@ -64,7 +64,7 @@ fn doing(serial: u32, clock: u32) -> Ask {
 
 fn withdrawing(serial: u32, clock: u32) -> Ask {
     let named = Serial(serial);
-    Ask::Withdraw(AskWithdraw {
+    Ask::Withdraw(RequestWithdraw {
         serial: named,
         clock,
     })
@@ -72,7 +72,7 @@ fn withdrawing(serial: u32, clock: u32) -> Ask {
 
 // User 0 revokes role 1 from user 1.
 fn revoking(clock: u32) -> Ask {
-    Ask::Act(AskAct {
+    Ask::Act(RequestAct {
         doer: 0,
         action: 1,
         first: 1,
@@ -83,7 +83,7 @@ fn revoking(clock: u32) -> Ask {
 
 // User 0 is to grant role 1 to user 1.
 fn admitting(start: u32, end: u32, clock: u32) -> Ask {
-    Ask::Admit(AskAdmit {
+    Ask::Admit(RequestAdmit {
         doer: 0,
         action: 0,
         first: 1,

@@ -32,7 +32,7 @@ use Rattle.board.proofs.GoodLaws.{good→records, good→filler, records→rang
 use Rattle.board.proofs.PoolLaws.{duties-pool}
 use Rattle.board.proofs.SayingLaws.{view-fits, view-saying, saying-sized, saying-good}
 use Rattle.board.proofs.ToldLaws.{untouched}
-use Rattle.acts.proofs.Laws.{permitted-now}
+use Rattle.permitted.proofs.Laws.{permitted-now}
 use Rattle.after.specs.Boards.{actedBoard, didBoard}
 use Rattle.after.proofs.AfterLaws.{acted-is, withdrawn-is}
 use Rattle.after.proofs.FitsLaws.{withdrawn-fits}
@@ -40,17 +40,17 @@ use Rattle.outcomes.specs.declared.Outcome.{Outcome}
 use Rattle.outcomes.specs.Outcomes.{Flagged, refusedWith}
 use Rattle.outcomes.proofs.Judging.{refused-flagged}
 use Rattle.pool.proofs.FoundLaws.{FoundOpen}
-use Rattle.requests.specs.declared.AskDo.{AskDo}
+use Rattle.requests.specs.declared.RequestDo.{RequestDo}
 use Rattle.do_duty.specs.Does.{HeldBack, afterDo, doChecks, Does}
 use Rattle.do_duty.specs.Inside.{boardChecks, timeChecks, dutyChecks}
 
 -- the checks of the duty that is named: 13, 14, 15
-abbrev namedChecks : Board → AskDo → List Check
+abbrev namedChecks : Board → RequestDo → List Check
 namedChecks b q = drop 3 (doChecks b q)
 
 -- ---- a refusal
 
-module _ (b : Board) (q : AskDo) where
+module _ (b : Board) (q : RequestDo) where
   pub refused-does :
       (r : Outcome) (number : ℕ) → r ≡ refusedWith b number → Answers (doChecks b q) number
       → (number ≡ answer.done → ⊥) → Does b q (r .answer) (r .board) × Flagged r
@@ -92,7 +92,7 @@ module _ (b : Board) (q : AskDo) where
 
 -- ---- the duty was found
 
-module _ (b : Board) (is-good : good b ≡ true) (q : AskDo) (d : Duty)
+module _ (b : Board) (is-good : good b ≡ true) (q : RequestDo) (d : Duty)
     (found : FoundOpen (view b) (q .serial .0) d) where
   abbrev v : View
   v = view b

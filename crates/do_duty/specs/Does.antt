@@ -16,7 +16,7 @@ use Rattle.board.specs.Numbers as answer
 use Rattle.board.specs.Open.{NotOpen, OpenWith}
 use Rattle.board.specs.View.{View, view}
 use Rattle.board.specs.Windows.{whollyBefore, inWindow}
-use Rattle.requests.specs.declared.AskDo.{AskDo}
+use Rattle.requests.specs.declared.RequestDo.{RequestDo}
 
 -- some open duty is wholly before d
 pub record HeldBack (v : View) (d : Duty) : Type 0 where
@@ -25,11 +25,11 @@ pub record HeldBack (v : View) (d : Duty) : Type 0 where
   pub before : whollyBefore other d ≡ true
 
 -- the board says this after a duty was done: its change is made, and it is removed
-abbrev pub afterDo : Board → AskDo → View
+abbrev pub afterDo : Board → RequestDo → View
 afterDo b q = did (view b) (q .clock) (q .serial .0)
 
 -- Do: 19, 10, 12, 13, 14, 15.
-abbrev pub doChecks : Board → AskDo → List Check
+abbrev pub doChecks : Board → RequestDo → List Check
 doChecks b q =
     let open-with = OpenWith (view b) (q .serial .0) in
     check answer.broken (good b ≡ false)
@@ -41,5 +41,5 @@ doChecks b q =
     ∷ []
 
 -- It answers no serial.
-abbrev pub Does : Board → AskDo → Answer → Board → Type 0
+abbrev pub Does : Board → RequestDo → Answer → Board → Type 0
 Does b q r left = Called (doChecks b q) b (afterDo b q) 0 [] [] r left

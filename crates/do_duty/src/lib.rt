@@ -5,7 +5,7 @@ use board::Duty;
 use board::Serial;
 use outcomes::Outcome;
 use pool::Found;
-use requests::AskDo;
+use requests::RequestDo;
 ghost use lib.ListN.{take};
 ghost use Rattle.board.specs.Answers.{Answers};
 ghost use Rattle.outcomes.specs.Outcomes.{Flagged};
@@ -39,7 +39,7 @@ fn time_refusal(duties: [Duty; Board::DUTIES], n: usize, d: Duty, clock: u32) ->
 }
 
 // Do: 19, 10, 12, 13, 14, 15.
-pub fn do_duty(b: Board, q: AskDo) -> Outcome
+pub fn do_duty(b: Board, q: RequestDo) -> Outcome
     ensures { λ r. ⌜ Does b q (r .answer) (r .board) × Flagged r ⌝ }
 {
     let whole = values::is_good(b);
@@ -59,7 +59,7 @@ pub fn do_duty(b: Board, q: AskDo) -> Outcome
         return outcomes::refused(b, reason);
     }
     let what = d.what;
-    if !acts::permitted(b, d.doer, what) {
+    if !permitted::permitted(b, d.doer, what) {
         return outcomes::refused(b, Answer::NOT_PERMITTED);
     }
     let board = after::did(b, q.clock, serial, what);

@@ -2,13 +2,13 @@
 // the call left in it is given back. So a program runs the lent calls without lending a board itself.
 use board::Answer;
 use board::Board;
-use requests::AskAct;
-use requests::AskAdmit;
-use requests::AskDo;
-use requests::AskWithdraw;
+use requests::RequestAct;
+use requests::RequestAdmit;
+use requests::RequestDo;
+use requests::RequestWithdraw;
 ghost use Rattle.act.specs.ActsNow.{ActsNow};
 ghost use Rattle.admit.specs.Admits.{Admits};
-ghost use Rattle.calls.specs.Opens.{Opens};
+ghost use Rattle.open.specs.Opens.{Opens};
 ghost use Rattle.do_duty.specs.Does.{Does};
 ghost use Rattle.withdraw.specs.Withdraws.{Withdraws};
 
@@ -29,7 +29,7 @@ pub fn open(b: Board, s: &[u8], list: &mut [u32]) -> Left
 }
 
 // Admit a duty.
-pub fn admit(b: Board, list: &mut [u32], q: AskAdmit) -> Left
+pub fn admit(b: Board, list: &mut [u32], q: RequestAdmit) -> Left
     ensures { λ r. ⌜ Admits b (now (list .entry)) q (r .answer) (r .board) (now (list .exit)) ⌝ }
 {
     let mut board = b;
@@ -38,7 +38,7 @@ pub fn admit(b: Board, list: &mut [u32], q: AskAdmit) -> Left
 }
 
 // Act now.
-pub fn act(b: Board, list: &mut [u32], q: AskAct) -> Left
+pub fn act(b: Board, list: &mut [u32], q: RequestAct) -> Left
     ensures { λ r. ⌜ ActsNow b (now (list .entry)) q (r .answer) (r .board) (now (list .exit)) ⌝ }
 {
     let mut board = b;
@@ -47,7 +47,7 @@ pub fn act(b: Board, list: &mut [u32], q: AskAct) -> Left
 }
 
 // Do an open duty.
-pub fn do_duty(b: Board, q: AskDo) -> Left
+pub fn do_duty(b: Board, q: RequestDo) -> Left
     ensures { λ r. ⌜ Does b q (r .answer) (r .board) ⌝ }
 {
     let mut board = b;
@@ -56,7 +56,7 @@ pub fn do_duty(b: Board, q: AskDo) -> Left
 }
 
 // Withdraw a duty.
-pub fn withdraw(b: Board, list: &mut [u32], q: AskWithdraw) -> Left
+pub fn withdraw(b: Board, list: &mut [u32], q: RequestWithdraw) -> Left
     ensures { λ r. ⌜ Withdraws b (now (list .entry)) q (r .answer) (r .board) (now (list .exit)) ⌝ }
 {
     let mut board = b;

@@ -1,11 +1,11 @@
 -- What admit, act and withdraw ask and promise, for the walk that they share.
 use mathlib.Core.Path.{refl}
-use Rattle.requests.proofs.AskAdmit as AskAdmit
-use Rattle.requests.proofs.AskAdmit.Laws as AskAdmit′
-use Rattle.requests.proofs.AskAct as AskAct
-use Rattle.requests.proofs.AskAct.Laws as AskAct′
-use Rattle.requests.proofs.AskWithdraw as AskWithdraw
-use Rattle.requests.proofs.AskWithdraw.Laws as AskWithdraw′
+use Rattle.requests.proofs.RequestAdmit as RequestAdmit
+use Rattle.requests.proofs.RequestAdmit.Laws as RequestAdmit′
+use Rattle.requests.proofs.RequestAct as RequestAct
+use Rattle.requests.proofs.RequestAct.Laws as RequestAct′
+use Rattle.requests.proofs.RequestWithdraw as RequestWithdraw
+use Rattle.requests.proofs.RequestWithdraw.Laws as RequestWithdraw′
 use Rattle.act.specs.ActsNow.{ActsNow}
 use Rattle.admit.specs.Admits.{Admits}
 use Rattle.withdraw.specs.Withdraws.{Withdraws}
@@ -13,9 +13,9 @@ use Rattle.lending.proofs.Layer.{Call}
 
 abbrev pub admitting : Call
 admitting = record {
-  asked = AskAdmit.the-type;
-  laws = AskAdmit′.the-laws;
-  plains = AskAdmit′.the-plain;
+  asked = RequestAdmit.the-type;
+  laws = RequestAdmit′.the-laws;
+  plains = RequestAdmit′.the-plain;
   last = λ _. tt;
   silent = λ _ _. refl;
   Promise = Admits;
@@ -24,9 +24,9 @@ admitting = record {
 
 abbrev pub acting : Call
 acting = record {
-  asked = AskAct.the-type;
-  laws = AskAct′.the-laws;
-  plains = AskAct′.the-plain;
+  asked = RequestAct.the-type;
+  laws = RequestAct′.the-laws;
+  plains = RequestAct′.the-plain;
   last = λ _. tt;
   silent = λ _ _. refl;
   Promise = ActsNow;
@@ -35,9 +35,9 @@ acting = record {
 
 abbrev pub withdrawing : Call
 withdrawing = record {
-  asked = AskWithdraw.the-type;
-  laws = AskWithdraw′.the-laws;
-  plains = AskWithdraw′.the-plain;
+  asked = RequestWithdraw.the-type;
+  laws = RequestWithdraw′.the-laws;
+  plains = RequestWithdraw′.the-plain;
   last = λ _. tt;
   silent = λ _ _. refl;
   Promise = Withdraws;

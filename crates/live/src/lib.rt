@@ -2,14 +2,14 @@
 // calls by value, with their promises.
 use board::Answer;
 use board::Board;
-use requests::AskAct;
-use requests::AskAdmit;
-use requests::AskDo;
-use requests::AskWithdraw;
+use requests::RequestAct;
+use requests::RequestAdmit;
+use requests::RequestDo;
+use requests::RequestWithdraw;
 ghost use Rattle.act.specs.ActsNow.{ActsNow};
 ghost use Rattle.admit.specs.Admits.{Admits};
-ghost use Rattle.calls.specs.Opens.{Opens};
 ghost use Rattle.do_duty.specs.Does.{Does};
+ghost use Rattle.open.specs.Opens.{Opens};
 ghost use Rattle.withdraw.specs.Withdraws.{Withdraws};
 
 // Open a board file into the board: what the file says, or the smallest board where it is refused.
@@ -17,13 +17,13 @@ pub fn open(b: &mut Board, s: &[u8], list: &mut [u32]) -> Answer
     ensures { λ r. ⌜ Opens (now (s .entry)) (now (list .entry)) (now (list .exit))
         (record { answer = r; board = now (b .exit) }) ⌝ }
 {
-    let opened = calls::open(s, list);
+    let opened = open::open(s, list);
     *b = opened.board;
     opened.answer
 }
 
 // Admit a duty.
-pub fn admit(b: &mut Board, list: &mut [u32], q: AskAdmit) -> Answer
+pub fn admit(b: &mut Board, list: &mut [u32], q: RequestAdmit) -> Answer
     ensures { λ r. ⌜ Admits (now (b .entry)) (now (list .entry)) q r (now (b .exit)) (now (list .exit)) ⌝ }
 {
     let admitted = admit::admit(*b, list, q);
@@ -34,7 +34,7 @@ pub fn admit(b: &mut Board, list: &mut [u32], q: AskAdmit) -> Answer
 }
 
 // Act now.
-pub fn act(b: &mut Board, list: &mut [u32], q: AskAct) -> Answer
+pub fn act(b: &mut Board, list: &mut [u32], q: RequestAct) -> Answer
     ensures { λ r. ⌜ ActsNow (now (b .entry)) (now (list .entry)) q r (now (b .exit)) (now (list .exit)) ⌝ }
 {
     let acted = act::act(*b, list, q);
@@ -45,7 +45,7 @@ pub fn act(b: &mut Board, list: &mut [u32], q: AskAct) -> Answer
 }
 
 // Do an open duty.
-pub fn do_duty(b: &mut Board, q: AskDo) -> Answer
+pub fn do_duty(b: &mut Board, q: RequestDo) -> Answer
     ensures { λ r. ⌜ Does (now (b .entry)) q r (now (b .exit)) ⌝ }
 {
     let done = do_duty::do_duty(*b, q);
@@ -56,7 +56,7 @@ pub fn do_duty(b: &mut Board, q: AskDo) -> Answer
 }
 
 // Withdraw a duty.
-pub fn withdraw(b: &mut Board, list: &mut [u32], q: AskWithdraw) -> Answer
+pub fn withdraw(b: &mut Board, list: &mut [u32], q: RequestWithdraw) -> Answer
     ensures { λ r. ⌜ Withdraws (now (b .entry)) (now (list .entry)) q r (now (b .exit)) (now (list .exit)) ⌝ }
 {
     let withdrawn = withdraw::withdraw(*b, list, q);

@@ -25,7 +25,7 @@ use Rattle.board.specs.Limits.{maxRoles}
 use Rattle.board.specs.Permitted.{Holding, heldIn, changed}
 use Rattle.board.specs.View.{View, view}
 use Rattle.board.proofs.GoodLaws.{good→counts, good→records, good→filler, records→range}
-use Rattle.acts.proofs.Laws.{changed-holdings, changed-length, holdings-view}
+use Rattle.permitted.proofs.Laws.{changed-holdings, changed-length, holdings-view}
 use Rattle.plain.specs.Walks.{firstFailingOf}
 use Rattle.plain.specs.Walking.{setsWorld, walked}
 

@@ -9,8 +9,8 @@ use Rattle.layout.specs.Layout.{longest}
 use Rattle.line.specs.Line.{lineOf}
 use Rattle.put.specs.Put.{Put}
 use Rattle.line.proofs.NumberLaws.{take-min}
-use Rattle.calls.specs.declared.Opened.{Opened}
-use Rattle.calls.specs.Opens.{Opens}
+use Rattle.open.specs.declared.Opened.{Opened}
+use Rattle.open.specs.Opens.{Opens}
 use Rattle.printed.specs.Printed.{cut, lentList, Printed}
 
 module _ (input : List ℕ) (n : ℕ) (judged : n ≡ length (cut input)) where

@@ -17,9 +17,9 @@ use Rattle.board.proofs.AnswersLaws.{past-first}
 use Rattle.file.specs.Reads.{readChecks, boardOf}
 use Rattle.line.specs.Line.{yes, no, refused, numbers, newline, lineOf}
 use Rattle.line.proofs.Words.{Begins, done-line, yes-done, no-red, refused-other}
-use Rattle.calls.specs.Opens.{said}
-use Rattle.calls.proofs.Opening.{redCheck}
-use Rattle.calls.proofs.Tick.{open-ticks, open-crosses}
+use Rattle.open.specs.Opens.{said}
+use Rattle.open.proofs.Opening.{redCheck}
+use Rattle.open.proofs.Tick.{open-ticks, open-crosses}
 use Rattle.printed.specs.Printed.{cut, lentList, Printed}
 
 -- no check of reading the file applies

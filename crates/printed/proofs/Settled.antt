@@ -8,8 +8,8 @@ use Rattle.board.specs.Told.{OneOrder}
 use Rattle.line.specs.Line.{lineOf}
 use Rattle.put.specs.Put.{Put}
 use Rattle.line.proofs.Settled.{same-line}
-use Rattle.calls.specs.declared.Opened.{Opened}
-use Rattle.calls.proofs.Settled.{same-board, same-opening}
+use Rattle.open.specs.declared.Opened.{Opened}
+use Rattle.open.proofs.Settled.{same-board, same-opening}
 use Rattle.printed.specs.Printed.{Printed}
 
 -- the line of what was opened

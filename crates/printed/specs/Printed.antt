@@ -6,8 +6,8 @@ use Rattle.board.specs.Limits.{maxDuties}
 use Rattle.layout.specs.Layout.{longest}
 use Rattle.line.specs.Line.{lineOf}
 use Rattle.put.specs.Put.{Put}
-use Rattle.calls.specs.declared.Opened.{Opened}
-use Rattle.calls.specs.Opens.{Opens}
+use Rattle.open.specs.declared.Opened.{Opened}
+use Rattle.open.specs.Opens.{Opens}
 
 -- An input of more than 6,952 bytes is cut to 6,953 before it is judged.
 abbrev pub cut : List ℕ → List ℕ

@@ -22,6 +22,6 @@ pub fn line_for(input: &[u8], out: &mut [u8; line::ROOM]) -> usize
 {
     let n = cut_length(input);
     let mut list = [0u32; Board::DUTIES];
-    let opened = calls::open(&input[..n], &mut list);
+    let opened = open::open(&input[..n], &mut list);
     line::write_line(opened.answer, opened.board.counts.duties, &list, out)
 }

@@ -25,8 +25,8 @@ use Rattle.board.specs.Windows.{whollyBefore}
 use Rattle.board.proofs.AnswersLaws.{none-first, none-second, then-second}
 use Rattle.board.proofs.GreenLaws.{green-not-red}
 use Rattle.board.proofs.SayingLaws.{ViewFits, view-fits}
-use Rattle.requests.specs.declared.AskAdmit.{AskAdmit}
-use Rattle.requests.specs.declared.AskDo.{AskDo}
+use Rattle.requests.specs.declared.RequestAdmit.{RequestAdmit}
+use Rattle.requests.specs.declared.RequestDo.{RequestDo}
 use Rattle.after.proofs.FitsLaws.{did-fits}
 use Rattle.admit.specs.Admits.{afterAdmit, admitEarlier}
 use Rattle.admit.proofs.Admitting as admitting
@@ -49,8 +49,8 @@ abbrev redCheck : View → List Check
 redCheck v = check answer.red (Red v) ∷ []
 
 pub admit-fits :
-    (b : Board) → Sized b → (before : List ℕ) (q : AskAdmit) → NoneApplies (admitEarlier b (length before) q)
-    → ViewFits (afterAdmit b q)
+    (b : Board) → Sized b → (before : List ℕ) (q : RequestAdmit)
+    → NoneApplies (admitEarlier b (length before) q) → ViewFits (afterAdmit b q)
 admit-fits b size before q none =
     let earlier = admitEarlier b (length before) q in
     admitting.fits-after b size before q answer.done (then-second earlier [] answer.done none refl) refl
@@ -79,7 +79,7 @@ record NextNamed (b : Board) (serial : ℕ) : Type 0 where
   has-serial : duty .serial .0 ≡ serial
   next : Next (worldOf (view b)) (view b .duties) duty
 
-module _ (b : Board) (q : AskDo) (none : NoneApplies (doChecks b q)) where
+module _ (b : Board) (q : RequestDo) (none : NoneApplies (doChecks b q)) where
   named-next : (d : Duty) → Mem d (view b .duties) → d .serial .0 ≡ q .serial .0 → NextNamed b (q .serial .0)
   named-next d m e =
       record {

@@ -23,11 +23,11 @@ use Rattle.board.proofs.GoodLaws.{good→records}
 use Rattle.board.proofs.GreenLaws.{green-not-red, red-not-green}
 use Rattle.file.specs.Reads.{boardOf}
 use Rattle.file.proofs.Accepted.{accepted-good}
-use Rattle.calls.specs.declared.Opened.{Opened}
-use Rattle.calls.specs.Opens.{said, Opens}
-use Rattle.requests.specs.declared.AskAct.{AskAct}
-use Rattle.requests.specs.declared.AskAdmit.{AskAdmit}
-use Rattle.requests.specs.declared.AskWithdraw.{AskWithdraw}
+use Rattle.open.specs.declared.Opened.{Opened}
+use Rattle.open.specs.Opens.{said, Opens}
+use Rattle.requests.specs.declared.RequestAct.{RequestAct}
+use Rattle.requests.specs.declared.RequestAdmit.{RequestAdmit}
+use Rattle.requests.specs.declared.RequestWithdraw.{RequestWithdraw}
 use Rattle.verdict.specs.Checked.{Checked}
 use Rattle.admit.specs.Admits.{afterAdmit, admitEarlier, Admits}
 use Rattle.act.specs.ActsNow.{afterAct, actEarlier, ActsNow}
@@ -68,7 +68,7 @@ module _
 
 module _ (b : Board) (size : Sized b) (before after : List ℕ) (r : Answer) (left : Board) where
   pub admit-judged :
-      (q : AskAdmit) → NoneApplies (admitEarlier b (length before) q) → Admits b before q r left after
+      (q : RequestAdmit) → NoneApplies (admitEarlier b (length before) q) → Admits b before q r left after
       → Judged (afterAdmit b q) before after r
   admit-judged q none c =
       let fits = admit-fits b size before q none in
@@ -76,7 +76,7 @@ module _ (b : Board) (size : Sized b) (before after : List ℕ) (r : Answer) (le
       (c .number)
 
   pub act-judged :
-      (q : AskAct) → NoneApplies (actEarlier b (length before) q) → ActsNow b before q r left after
+      (q : RequestAct) → NoneApplies (actEarlier b (length before) q) → ActsNow b before q r left after
       → Judged (afterAct b q) before after r
   act-judged q none c =
       let fits = acting.fits-after b size (length before) q none in
@@ -84,7 +84,7 @@ module _ (b : Board) (size : Sized b) (before after : List ℕ) (r : Answer) (le
       (c .number)
 
   pub withdraw-judged :
-      (q : AskWithdraw) → NoneApplies (withdrawEarlier b (length before) q)
+      (q : RequestWithdraw) → NoneApplies (withdrawEarlier b (length before) q)
       → Withdraws b before q r left after → Judged (afterWithdraw b q) before after r
   withdraw-judged q none c =
       let fits = withdrawing.fits-after b size (length before) q none in

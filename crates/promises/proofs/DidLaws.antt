@@ -21,7 +21,7 @@ use Rattle.board.specs.View.{View}
 use Rattle.board.proofs.GoodLaws.{records→range}
 use Rattle.board.proofs.PoolLaws.{duties-pool}
 use Rattle.board.proofs.SayingLaws.{ViewFits}
-use Rattle.acts.proofs.Laws.{changed-holdings}
+use Rattle.permitted.proofs.Laws.{changed-holdings}
 
 module _ (v : View) (fits : ViewFits v) where
   pub pool : Pool (worldOf v) (v .duties)

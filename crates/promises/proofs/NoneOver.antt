@@ -23,7 +23,7 @@ use Rattle.board.specs.Numbers as answer
 use Rattle.board.specs.View.{View, view}
 use Rattle.board.specs.Windows.{isOver}
 use Rattle.board.proofs.SayingLaws.{view-saying}
-use Rattle.requests.specs.declared.AskAdmit.{AskAdmit}
+use Rattle.requests.specs.declared.RequestAdmit.{RequestAdmit}
 use Rattle.requests.specs.Requests.{asked}
 use Rattle.admit.specs.Admits.{afterAdmit, admitChecks, Admits}
 use Rattle.promises.specs.Calls.{admit}
@@ -35,7 +35,7 @@ use Rattle.promises.proofs.Kept.{done→none}
 use Rattle.promises.proofs.StaysGreen.{step-green}
 
 module _
-    (b : Board) (q : AskAdmit) (before after : List ℕ) (r : Answer) (left : Board)
+    (b : Board) (q : RequestAdmit) (before after : List ℕ) (r : Answer) (left : Board)
     (k : Admits b before q r left after) (accepted : r .number ≡ answer.done)
     (open-still : NoneOverAt (q .clock) b)
   where

@@ -24,9 +24,9 @@ use Rattle.file.proofs.Accepted.{accepted-good}
 use Rattle.save.specs.Saves.{saved, saveChecks, Saves}
 use Rattle.read_back.proofs.ReadBack.{file-read, board-back}
 use Rattle.read_back.proofs.BytesBack.{bytes-back}
-use Rattle.calls.specs.declared.Opened.{Opened}
-use Rattle.calls.specs.Opens.{said, Opens}
-use Rattle.calls.proofs.Tick.{open-ticks}
+use Rattle.open.specs.declared.Opened.{Opened}
+use Rattle.open.specs.Opens.{said, Opens}
+use Rattle.open.proofs.Tick.{open-ticks}
 use Rattle.promises.specs.Calls.{Made, Calls}
 use Rattle.promises.specs.Judged.{Judged}
 use Rattle.promises.specs.Saved.{fileIn}

@@ -19,7 +19,7 @@ use Rattle.board.specs.View.{View, view}
 use Rattle.board.specs.Answers.{NoneApplies}
 use Rattle.board.proofs.GoodLaws.{good→records, records→range}
 use Rattle.board.proofs.SayingLaws.{view-saying}
-use Rattle.requests.specs.declared.AskAdmit.{AskAdmit}
+use Rattle.requests.specs.declared.RequestAdmit.{RequestAdmit}
 use Rattle.admit.specs.Admits.{afterAdmit, admitChecks, Admits}
 use Rattle.promises.specs.Calls.{
   Call,
@@ -103,7 +103,7 @@ module _ (b : Board) (w : Whole b) where
 
   -- after an accepted admission it is what the promise says
   admitted-next :
-      (before after : List ℕ) (q : AskAdmit) (r : Answer) (left : Board) → Admits b before q r left after
+      (before after : List ℕ) (q : RequestAdmit) (r : Answer) (left : Board) → Admits b before q r left after
       → r .number ≡ answer.done → left .next .0 ≡ afterAdmit b q .next
   admitted-next before after q r left k e =
       let none =

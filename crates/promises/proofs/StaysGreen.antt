@@ -12,9 +12,9 @@ use Rattle.board.specs.Saying.{boardSaying}
 use Rattle.board.specs.View.{View}
 use Rattle.board.proofs.SayingLaws.{ViewFits, saying-sized, saying-good, view-saying}
 use Rattle.file.proofs.Accepted.{accepted-sized}
-use Rattle.calls.specs.declared.Opened.{Opened}
-use Rattle.calls.specs.Opens.{Opens}
-use Rattle.calls.proofs.Tick.{open-ticks, opened-right}
+use Rattle.open.specs.declared.Opened.{Opened}
+use Rattle.open.specs.Opens.{Opens}
+use Rattle.open.proofs.Tick.{open-ticks, opened-right}
 use Rattle.promises.specs.Calls.{Call, Keeps, Made, Calls}
 use Rattle.promises.specs.GoodAndGreen.{Whole, GoodAndGreen}
 use Rattle.promises.proofs.Kept.{afterCall, kept}

@@ -30,7 +30,7 @@ use Rattle.board.specs.Answers.{NoneApplies}
 use Rattle.board.proofs.CasesHold.{cases-hold}
 use Rattle.board.proofs.InRange.{CountsInRange, counts→range}
 use Rattle.board.proofs.SayingLaws.{ViewFits, saying-sized, saying-good, view-saying}
-use Rattle.requests.specs.declared.AskDo.{AskDo}
+use Rattle.requests.specs.declared.RequestDo.{RequestDo}
 use Rattle.verdict.specs.Checked.{Checked}
 use Rattle.do_duty.specs.Does.{afterDo, doChecks, Does}
 use Rattle.promises.specs.Calls.{doDuty}
@@ -158,7 +158,7 @@ not-refused r left k = all-done board2 right2 open2 (G 1 7 9 ∷ U 2 12 20 ∷ [
 
 -- After an accepted do no open duty has the serial, and one had it before.
 pub not-unchanged :
-    (b : Board) → Whole b → (q : AskDo) (r : Answer) (left : Board) → Does b q r left
+    (b : Board) → Whole b → (q : RequestDo) (r : Answer) (left : Board) → Does b q r left
     → r .number ≡ answer.done → left ≡ b → ⊥
 not-unchanged b w q r left k e same =
     none .1 .1 .0 (subst (λ (c : Board). NotOpen (view c) (q .serial .0)) same gone)

@@ -5,10 +5,10 @@ use mathlib.Core.List.{List, [], _∷_}
 use Prim.Native.Nat.{ℕ}
 use Rattle.board.specs.declared.Answer.{Answer}
 use Rattle.board.specs.declared.Board.{Board}
-use Rattle.requests.specs.declared.AskAct.{AskAct}
-use Rattle.requests.specs.declared.AskAdmit.{AskAdmit}
-use Rattle.requests.specs.declared.AskDo.{AskDo}
-use Rattle.requests.specs.declared.AskWithdraw.{AskWithdraw}
+use Rattle.requests.specs.declared.RequestAct.{RequestAct}
+use Rattle.requests.specs.declared.RequestAdmit.{RequestAdmit}
+use Rattle.requests.specs.declared.RequestDo.{RequestDo}
+use Rattle.requests.specs.declared.RequestWithdraw.{RequestWithdraw}
 use Rattle.save.specs.Saves.{Saves}
 use Rattle.verdict.specs.Checked.{Checked}
 use Rattle.plain.specs.Walks.{Walks}
@@ -19,10 +19,10 @@ use Rattle.withdraw.specs.Withdraws.{Withdraws}
 
 -- a call: the list or buffer lent to it, and what it asks
 pub data Call : Type 0 where
-  admit : List ℕ → AskAdmit → Call
-  act : List ℕ → AskAct → Call
-  doDuty : AskDo → Call
-  withdraw : List ℕ → AskWithdraw → Call
+  admit : List ℕ → RequestAdmit → Call
+  act : List ℕ → RequestAct → Call
+  doDuty : RequestDo → Call
+  withdraw : List ℕ → RequestWithdraw → Call
   check : List ℕ → Call
   save : List ℕ → Call
   walk : List ℕ → Call

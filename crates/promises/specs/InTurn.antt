@@ -11,7 +11,7 @@ use Rattle.board.specs.Answers.{doneAnswer}
 use Rattle.board.specs.Numbers as answer
 use Rattle.board.specs.View.{view}
 use Rattle.board.specs.Windows.{isOver}
-use Rattle.requests.specs.declared.AskDo.{AskDo}
+use Rattle.requests.specs.declared.RequestDo.{RequestDo}
 use Rattle.do_duty.specs.Does.{Does}
 
 -- no open window is over at this clock
@@ -23,7 +23,7 @@ abbrev pub NoneOver : Board → Type 0
 NoneOver b = NoneOverAt (b .clock) b
 
 -- this duty is to be done at the earliest minute that its window and the clock permit
-abbrev pub earliestDo : Board → Duty → AskDo
+abbrev pub earliestDo : Board → Duty → RequestDo
 earliestDo b d = record { serial = d .serial; clock = max (b .clock) (d .start) }
 
 -- Whatever outcomes keep do's promise, one after the other: each is accepted, and no duty is left. So neither

@@ -38,7 +38,7 @@ fn opened(file: &[u8], out: &mut [u8; ROOM]) -> Live {
     let mut list = [0u32; LENT];
     mark(&mut list);
     let n = Board::DUTIES;
-    let opening = calls::open(file, &mut list[0..n]);
+    let opening = open::open(file, &mut list[0..n]);
     let answer = opening.answer;
     let board = opening.board;
     let here = put_opening(out, 0, answer, &list);

@@ -5,7 +5,7 @@ use lib.Dec.{ltb}
 use Rattle.board.specs.After.{NewDuty}
 use Rattle.board.specs.Doing.{whatOf, secondFits}
 use Rattle.board.specs.Good.{whatFits}
-use Rattle.requests.specs.declared.AskAdmit.{AskAdmit}
+use Rattle.requests.specs.declared.RequestAdmit.{RequestAdmit}
 
 -- every field is in its range, and the second of a use is 0 (else 11)
 abbrev pub doingFits : ℕ → ℕ → ℕ → ℕ → ℕ → ℕ → Bool
@@ -13,7 +13,7 @@ doingFits users roles doer action first second =
     ltb doer users && (whatFits users roles (whatOf action first second) && secondFits action second)
 
 -- the duty asked for
-abbrev pub asked : AskAdmit → NewDuty
+abbrev pub asked : RequestAdmit → NewDuty
 asked q =
     record {
       doer = q .doer;

@@ -6,7 +6,7 @@ ghost use mathlib.Core.Path.{_≡_};
 ghost use Rattle.requests.specs.Requests.{doingFits};
 
 // Admit: a duty to be added.
-pub struct AskAdmit {
+pub struct RequestAdmit {
     pub doer: u16,
     pub action: u16,
     pub first: u16,
@@ -17,7 +17,7 @@ pub struct AskAdmit {
 }
 
 // Act: something to be done now.
-pub struct AskAct {
+pub struct RequestAct {
     pub doer: u16,
     pub action: u16,
     pub first: u16,
@@ -26,13 +26,13 @@ pub struct AskAct {
 }
 
 // Do: an open duty to be done now.
-pub struct AskDo {
+pub struct RequestDo {
     pub serial: Serial,
     pub clock: u32,
 }
 
 // Withdraw: an open duty to be taken off the board.
-pub struct AskWithdraw {
+pub struct RequestWithdraw {
     pub serial: Serial,
     pub clock: u32,
 }

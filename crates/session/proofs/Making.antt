@@ -7,10 +7,10 @@ use Rattle.board.specs.declared.Answer.{Answer}
 use Rattle.board.specs.declared.Board.{Board}
 use Rattle.board.specs.Numbers as answer
 use Rattle.verdict.specs.Checked.{Checked}
-use Rattle.requests.specs.declared.AskAct.{AskAct}
-use Rattle.requests.specs.declared.AskAdmit.{AskAdmit}
-use Rattle.requests.specs.declared.AskDo.{AskDo}
-use Rattle.requests.specs.declared.AskWithdraw.{AskWithdraw}
+use Rattle.requests.specs.declared.RequestAct.{RequestAct}
+use Rattle.requests.specs.declared.RequestAdmit.{RequestAdmit}
+use Rattle.requests.specs.declared.RequestDo.{RequestDo}
+use Rattle.requests.specs.declared.RequestWithdraw.{RequestWithdraw}
 use Rattle.outcomes.specs.declared.Outcome.{Outcome}
 use Rattle.outcomes.specs.Outcomes.{Flagged, refusedWith}
 use Rattle.plain.specs.Walks.{Walks}
@@ -19,16 +19,18 @@ use Rattle.act.specs.ActsNow.{ActsNow}
 use Rattle.do_duty.specs.Does.{Does}
 use Rattle.withdraw.specs.Withdraws.{Withdraws}
 use Rattle.session.specs.declared.Record.{Record}
-use Rattle.session.specs.Sessions.{askAdmit, askAct, askDo, askWithdraw, outcomeOf, Makes}
+use Rattle.session.specs.Sessions.{requestAdmit, requestAct, requestDo, requestWithdraw}
+use Rattle.session.specs.Sessions.{outcomeOf, Makes}
 
 module _ (b : Board) (r : Record) (before after : List ℕ) (o : Outcome) where
   pub made-admit :
-      (q : AskAdmit) → r .kind ≡ 0 → q ≡ askAdmit r
+      (q : RequestAdmit) → r .kind ≡ 0 → q ≡ requestAdmit r
       → Admits b before q (o .answer) (o .board) after × Flagged o → Makes b r before o after
   made-admit q is asks kept =
       record {
         admits = λ _.
-            subst (λ (q : AskAdmit). Admits b before q (o .answer) (o .board) after × Flagged o) asks kept;
+            subst (λ (q : RequestAdmit). Admits b before q (o .answer) (o .board) after × Flagged o)
+            asks kept;
         acts = λ e. absurd (omega arith);
         does = λ e. absurd (omega arith);
         withdraws = λ e. absurd (omega arith);
@@ -38,13 +40,13 @@ module _ (b : Board) (r : Record) (before after : List ℕ) (o : Outcome) where
       }
 
   pub made-act :
-      (q : AskAct) → r .kind ≡ 1 → q ≡ askAct r
+      (q : RequestAct) → r .kind ≡ 1 → q ≡ requestAct r
       → ActsNow b before q (o .answer) (o .board) after × Flagged o → Makes b r before o after
   made-act q is asks kept =
       record {
         admits = λ e. absurd (omega arith);
         acts = λ _.
-            subst (λ (q : AskAct). ActsNow b before q (o .answer) (o .board) after × Flagged o) asks kept;
+            subst (λ (q : RequestAct). ActsNow b before q (o .answer) (o .board) after × Flagged o) asks kept;
         does = λ e. absurd (omega arith);
         withdraws = λ e. absurd (omega arith);
         checks = λ e. absurd (omega arith);
@@ -53,14 +55,14 @@ module _ (b : Board) (r : Record) (before after : List ℕ) (o : Outcome) where
       }
 
   pub made-do :
-      (q : AskDo) → r .kind ≡ 2 → q ≡ askDo r → Does b q (o .answer) (o .board) × Flagged o
+      (q : RequestDo) → r .kind ≡ 2 → q ≡ requestDo r → Does b q (o .answer) (o .board) × Flagged o
       → after ≡ before → Makes b r before o after
   made-do q is asks kept same =
       record {
         admits = λ e. absurd (omega arith);
         acts = λ e. absurd (omega arith);
         does = λ _. (
-          subst (λ (q : AskDo). Does b q (o .answer) (o .board) × Flagged o) asks kept,
+          subst (λ (q : RequestDo). Does b q (o .answer) (o .board) × Flagged o) asks kept,
           same,
         );
         withdraws = λ e. absurd (omega arith);
@@ -70,7 +72,7 @@ module _ (b : Board) (r : Record) (before after : List ℕ) (o : Outcome) where
       }
 
   pub made-withdraw :
-      (q : AskWithdraw) → r .kind ≡ 3 → q ≡ askWithdraw r
+      (q : RequestWithdraw) → r .kind ≡ 3 → q ≡ requestWithdraw r
       → Withdraws b before q (o .answer) (o .board) after × Flagged o → Makes b r before o after
   made-withdraw q is asks kept =
       record {
@@ -79,7 +81,7 @@ module _ (b : Board) (r : Record) (before after : List ℕ) (o : Outcome) where
         does = λ e. absurd (omega arith);
         withdraws = λ _.
             subst
-            (λ (q : AskWithdraw). Withdraws b before q (o .answer) (o .board) after × Flagged o)
+            (λ (q : RequestWithdraw). Withdraws b before q (o .answer) (o .board) after × Flagged o)
             asks
             kept;
         checks = λ e. absurd (omega arith);

@@ -7,10 +7,10 @@ use Rattle.board.specs.declared.Answer.{Answer}
 use Rattle.board.specs.declared.Board.{Board}
 use Rattle.board.specs.Numbers as answer
 use Rattle.verdict.specs.Checked.{Checked}
-use Rattle.requests.specs.declared.AskAct.{AskAct}
-use Rattle.requests.specs.declared.AskAdmit.{AskAdmit}
-use Rattle.requests.specs.declared.AskDo.{AskDo}
-use Rattle.requests.specs.declared.AskWithdraw.{AskWithdraw}
+use Rattle.requests.specs.declared.RequestAct.{RequestAct}
+use Rattle.requests.specs.declared.RequestAdmit.{RequestAdmit}
+use Rattle.requests.specs.declared.RequestDo.{RequestDo}
+use Rattle.requests.specs.declared.RequestWithdraw.{RequestWithdraw}
 use Rattle.outcomes.specs.declared.Outcome.{Outcome}
 use Rattle.outcomes.specs.Outcomes.{Flagged, refusedWith}
 use Rattle.plain.specs.Walks.{Walks}
@@ -22,8 +22,8 @@ use Rattle.session.specs.declared.Record.{Record}
 
 -- ---- what a record asks of each call
 
-abbrev pub askAdmit : Record → AskAdmit
-askAdmit r =
+abbrev pub requestAdmit : Record → RequestAdmit
+requestAdmit r =
     record {
       doer = r .doer;
       action = r .action;
@@ -34,8 +34,8 @@ askAdmit r =
       clock = r .clock;
     }
 
-abbrev pub askAct : Record → AskAct
-askAct r =
+abbrev pub requestAct : Record → RequestAct
+requestAct r =
     record {
       doer = r .doer;
       action = r .action;
@@ -44,11 +44,11 @@ askAct r =
       clock = r .clock;
     }
 
-abbrev pub askDo : Record → AskDo
-askDo r = record { serial = record { 0 = r .serial }; clock = r .clock }
+abbrev pub requestDo : Record → RequestDo
+requestDo r = record { serial = record { 0 = r .serial }; clock = r .clock }
 
-abbrev pub askWithdraw : Record → AskWithdraw
-askWithdraw r = record { serial = record { 0 = r .serial }; clock = r .clock }
+abbrev pub requestWithdraw : Record → RequestWithdraw
+requestWithdraw r = record { serial = record { 0 = r .serial }; clock = r .clock }
 
 -- ---- what it leaves
 
@@ -60,11 +60,11 @@ outcomeOf b r = record { answer = r; accepted = false; board = b }
 -- kind leaves board and list untouched, with answer 0.
 pub record Makes (b : Board) (r : Record) (before : List ℕ) (o : Outcome) (after : List ℕ) : Type 0 where
   pub admits :
-      r .kind ≡ 0 → Admits b before (askAdmit r) (o .answer) (o .board) after × Flagged o
-  pub acts : r .kind ≡ 1 → ActsNow b before (askAct r) (o .answer) (o .board) after × Flagged o
-  pub does : r .kind ≡ 2 → (Does b (askDo r) (o .answer) (o .board) × Flagged o) × (after ≡ before)
+      r .kind ≡ 0 → Admits b before (requestAdmit r) (o .answer) (o .board) after × Flagged o
+  pub acts : r .kind ≡ 1 → ActsNow b before (requestAct r) (o .answer) (o .board) after × Flagged o
+  pub does : r .kind ≡ 2 → (Does b (requestDo r) (o .answer) (o .board) × Flagged o) × (after ≡ before)
   pub withdraws :
-      r .kind ≡ 3 → Withdraws b before (askWithdraw r) (o .answer) (o .board) after × Flagged o
+      r .kind ≡ 3 → Withdraws b before (requestWithdraw r) (o .answer) (o .board) after × Flagged o
   pub checks : r .kind ≡ 4 → Checked b before after (o .answer) × (o ≡ outcomeOf b (o .answer))
   pub walks : r .kind ≡ 6 → Walks b before after (o .answer) × (o ≡ outcomeOf b (o .answer))
   pub none :

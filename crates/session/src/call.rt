@@ -4,18 +4,19 @@ use board::Answer;
 use board::Board;
 use board::Serial;
 use outcomes::Outcome;
-use requests::AskAct;
-use requests::AskAdmit;
-use requests::AskDo;
-use requests::AskWithdraw;
+use requests::RequestAct;
+use requests::RequestAdmit;
+use requests::RequestDo;
+use requests::RequestWithdraw;
 ghost use mathlib.Core.Path.{_≡_};
-ghost use Rattle.session.specs.Sessions.{askAdmit, askAct, askDo, askWithdraw, outcomeOf, Makes};
+ghost use Rattle.session.specs.Sessions.{requestAdmit, requestAct, requestDo, requestWithdraw};
+ghost use Rattle.session.specs.Sessions.{outcomeOf, Makes};
 
 // What a record asks of each call.
-fn ask_admit(r: Record) -> AskAdmit
-    ensures { λ q. ⌜ q ≡ askAdmit r ⌝ }
+fn request_admit(r: Record) -> RequestAdmit
+    ensures { λ q. ⌜ q ≡ requestAdmit r ⌝ }
 {
-    AskAdmit {
+    RequestAdmit {
         doer: r.doer,
         action: r.action,
         first: r.first,
@@ -26,10 +27,10 @@ fn ask_admit(r: Record) -> AskAdmit
     }
 }
 
-fn ask_act(r: Record) -> AskAct
-    ensures { λ q. ⌜ q ≡ askAct r ⌝ }
+fn request_act(r: Record) -> RequestAct
+    ensures { λ q. ⌜ q ≡ requestAct r ⌝ }
 {
-    AskAct {
+    RequestAct {
         doer: r.doer,
         action: r.action,
         first: r.first,
@@ -38,21 +39,21 @@ fn ask_act(r: Record) -> AskAct
     }
 }
 
-fn ask_do(r: Record) -> AskDo
-    ensures { λ q. ⌜ q ≡ askDo r ⌝ }
+fn request_do(r: Record) -> RequestDo
+    ensures { λ q. ⌜ q ≡ requestDo r ⌝ }
 {
     let serial = Serial(r.serial);
-    AskDo {
+    RequestDo {
         serial,
         clock: r.clock,
     }
 }
 
-fn ask_withdraw(r: Record) -> AskWithdraw
-    ensures { λ q. ⌜ q ≡ askWithdraw r ⌝ }
+fn request_withdraw(r: Record) -> RequestWithdraw
+    ensures { λ q. ⌜ q ≡ requestWithdraw r ⌝ }
 {
     let serial = Serial(r.serial);
-    AskWithdraw {
+    RequestWithdraw {
         serial,
         clock: r.clock,
     }
@@ -75,16 +76,16 @@ pub fn called(b: Board, r: Record, list: &mut [u32]) -> Outcome
     ensures { λ o. ⌜ Makes b r (now (list .entry)) o (now (list .exit)) ⌝ }
 {
     if r.kind == crate::ADMIT {
-        return admit::admit(b, list, ask_admit(r));
+        return admit::admit(b, list, request_admit(r));
     }
     if r.kind == crate::ACT {
-        return act::act(b, list, ask_act(r));
+        return act::act(b, list, request_act(r));
     }
     if r.kind == crate::DO {
-        return do_duty::do_duty(b, ask_do(r));
+        return do_duty::do_duty(b, request_do(r));
     }
     if r.kind == crate::WITHDRAW {
-        return withdraw::withdraw(b, list, ask_withdraw(r));
+        return withdraw::withdraw(b, list, request_withdraw(r));
     }
     if r.kind == crate::CHECK {
         return outcome_of(b, verdict::check(b, list));

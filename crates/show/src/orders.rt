@@ -78,7 +78,7 @@ pub(crate) fn show_rest(b: Board, left: usize, done: Order, so_far: u32) -> u32 
             let serial = d.serial;
             let what = d.what;
             let next = with_next(done, serial);
-            if acts::permitted(b, d.doer, what) {
+            if permitted::permitted(b, d.doer, what) {
                 let rest = after::did(b, b.clock, serial, what);
                 shown = show_rest(rest, left - 1, next, shown);
             } else {

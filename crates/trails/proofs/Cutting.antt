@@ -15,9 +15,9 @@ use Rattle.orders.specs.Orders.{World}
 use Rattle.orders.specs.Trails.{early, between, trail, cutOff}
 use Rattle.orders.proofs.Lists.{at-mid, keep-mem}
 use Rattle.orders.proofs.Tests.{by-test, and-yes}
-use Rattle.acts.specs.Meets.{meetsSets}
-use Rattle.acts.proofs.Laws.{changed-holdings, changed-length}
-use Rattle.acts.proofs.RuleNeeds.{role-met, rule-met}
+use Rattle.permitted.specs.Meets.{meetsSets}
+use Rattle.permitted.proofs.Laws.{changed-holdings, changed-length}
+use Rattle.permitted.proofs.RuleNeeds.{role-met, rule-met}
 use Rattle.asks.specs.Asks.{inOneForm, askOf}
 use Rattle.board.specs.declared.Asked.{Asked}
 use Rattle.board.specs.declared.Asked.the-variants.{Unruled, Role, Meets}

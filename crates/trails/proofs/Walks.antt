@@ -18,7 +18,7 @@ use Rattle.asks.specs.declared.Ask.{Ask}
 use Rattle.asks.specs.Asks.{noAsk, AskedBy}
 use Rattle.board.specs.declared.Duty.{Duty}
 use Rattle.board.specs.Filler.{noDuty}
-use Rattle.in_order.specs.InOrder.{placeOf, byKeys, OfTheFirst}
+use Rattle.in_order.specs.InOrder.{placeInKey, byKeys, OfTheFirst}
 use Rattle.in_order.proofs.ByKeys.{as-many, at-key}
 use Rattle.trails.specs.Walking.{Walk, inTrail, trailOf, doOne, doAll, setOut}
 use Rattle.trails.specs.Walking.{askAt, AskedInTurn, PartDone, PlaceOf, Walked}
@@ -150,7 +150,7 @@ module _ {duties : List Duty} {n spoiler stuck i j : ℕ} (x-at : PlaceOf duties
       → OfTheFirst duties n keys → AskedInTurn asked order (askAt asks keys)
   asked-in-order asked are inside k h =
       let many = as-many duties n keys in
-      let place = placeOf (getD keys k 0) in
+      let place = placeInKey (getD keys k 0) in
       let within = inside k (omega (arith, many, length-take n keys)) in
       are place within
       ∙ ap asked

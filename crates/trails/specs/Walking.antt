@@ -8,7 +8,7 @@ use lib.Dec.{eqb, leb}
 use lib.ListN.{length, getD, set, take}
 use Rattle.orders.specs.Lists.{Mem, keep}
 use Rattle.roles.specs.Roles.{inSet}
-use Rattle.acts.specs.Meets.{meetsSets}
+use Rattle.permitted.specs.Meets.{meetsSets}
 use Rattle.asks.specs.declared.Ask.{Ask}
 use Rattle.asks.specs.Asks.{noAsk, AskedBy}
 use Rattle.board.specs.declared.Duty.{Duty}
@@ -17,7 +17,7 @@ use Rattle.board.specs.Good.{whatFits}
 use Rattle.board.specs.Limits.{maxUsers, maxRoles}
 use Rattle.board.specs.Permitted.{changed}
 use Rattle.board.specs.Windows.{whollyBefore}
-use Rattle.in_order.specs.InOrder.{placeOf, byKeys, OfTheFirst}
+use Rattle.in_order.specs.InOrder.{placeInKey, byKeys, OfTheFirst}
 use Rattle.trails.specs.declared.Progress.{Progress}
 
 -- ---- the trail of x and d
@@ -74,7 +74,7 @@ doAll asked w (y ∷ l) = doAll asked (doOne (asked y) w y) l
 
 -- what is asked for the duty of the k-th key
 abbrev pub askAt : List Ask → List ℕ → ℕ → Ask
-askAt asks keys k = getD asks (placeOf (getD keys k 0)) noAsk
+askAt asks keys k = getD asks (placeInKey (getD keys k 0)) noAsk
 
 -- these are what `asked` says is asked for the duties of an order, one after the other
 abbrev pub AskedInTurn : (Duty → Ask) → List Duty → (ℕ → Ask) → Type 0

@@ -32,9 +32,9 @@ fn in_trail(y: Duty, x: Duty, d: Duty, late: bool) -> bool
 fn meets_ask(holdings: &[u32; Board::USERS], doer: u16, ask: Ask) -> bool
     ensures { λ r. ⌜ r ≡ meetsAsk (now (holdings .entry)) doer ask ⌝ }
 {
-    let own = acts::held_by(holdings, doer);
-    let theirs = acts::held_by(holdings, ask.target);
-    ask.ruled & (roles::holds(own, ask.actor) & acts::meets(theirs, ask.wanted, ask.barred))
+    let own = permitted::held_by(holdings, doer);
+    let theirs = permitted::held_by(holdings, ask.target);
+    ask.ruled & (roles::holds(own, ask.actor) & permitted::meets(theirs, ask.wanted, ask.barred))
 }
 
 // Do one duty, if none got stuck so far and the list has room: write its serial, and make its change where
@@ -60,7 +60,7 @@ fn do_one(
     let permitted = meets_ask(holdings, y.doer, ask);
     if permitted {
         let what = y.what;
-        acts::make_change(holdings, what);
+        permitted::make_change(holdings, what);
     }
     Progress {
         length: next,

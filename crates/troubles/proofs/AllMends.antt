@@ -13,8 +13,8 @@ use Rattle.board.specs.Filler.{noDuty}
 use Rattle.board.specs.Limits.{maxDuties}
 use Rattle.troubles.specs.declared.setting.Setter.{Setter}
 use Rattle.troubles.specs.Setting.{setterOf}
-use Rattle.quick_test.specs.Mends.{lastMinute, firstMend}
-use Rattle.quick_test.proofs.Mending.{earlierMend, first-none, first-place}
+use Rattle.quick_criterion.specs.Mends.{lastMinute, firstMend}
+use Rattle.quick_criterion.proofs.Mending.{earlierMend, first-none, first-place}
 
 -- ---- the first m places hold what f makes of a list
 

@@ -12,8 +12,8 @@ use Rattle.asks.specs.declared.Ask.{Ask}
 use Rattle.board.specs.declared.What.{What}
 use Rattle.board.specs.declared.What.the-variants.{Grant, Revoke, Use}
 use Rattle.troubles.specs.Setting.{userOf, grantsOf, revokesOf, hasRole, isAgainst}
-use Rattle.quick_test.specs.Tests.{granted, revoked, needsOpposite, undoes}
-use Rattle.quick_test.proofs.Mending.{and-false}
+use Rattle.quick_criterion.specs.Tests.{granted, revoked, needsOpposite, undoes}
+use Rattle.quick_criterion.proofs.Mending.{and-false}
 
 -- ---- one role more, and one less
 

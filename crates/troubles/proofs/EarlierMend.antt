@@ -10,10 +10,10 @@ use Rattle.board.specs.declared.Duty.{Duty}
 use Rattle.board.specs.Windows.{whollyBefore}
 use Rattle.troubles.specs.declared.setting.Setter.{Setter}
 use Rattle.troubles.specs.Setting.{setterOf}
-use Rattle.quick_test.specs.Mends.{firstMend}
-use Rattle.quick_test.specs.Tests.{undoes}
+use Rattle.quick_criterion.specs.Mends.{firstMend}
+use Rattle.quick_criterion.specs.Tests.{undoes}
 use Rattle.troubles.proofs.Bits.{undone, undoes-is}
-use Rattle.quick_test.proofs.Mending.{and-false, earlierMend}
+use Rattle.quick_criterion.proofs.Mending.{and-false, earlierMend}
 
 -- x is wholly before g, and g undoes what x sets
 abbrev mendsLater : Duty → Duty → Bool

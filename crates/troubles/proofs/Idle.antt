@@ -13,8 +13,8 @@ use Rattle.board.specs.declared.What.{What}
 use Rattle.board.specs.declared.What.the-variants.{Grant, Revoke, Use}
 use Rattle.board.specs.Windows.{whollyBefore}
 use Rattle.troubles.specs.Setting.{setsOne}
-use Rattle.quick_test.specs.Tests.{granted, revoked, needsOpposite, undoes, mends, makesWrong}
-use Rattle.quick_test.proofs.Mending.{and-false}
+use Rattle.quick_criterion.specs.Tests.{granted, revoked, needsOpposite, undoes, mends, makesWrong}
+use Rattle.quick_criterion.proofs.Mending.{and-false}
 
 -- ---- what such a duty does not do
 

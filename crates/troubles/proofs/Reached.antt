@@ -14,9 +14,9 @@ use Rattle.board.specs.Windows.{whollyBefore}
 use Rattle.troubles.specs.declared.pairs.Reach.{Reach}
 use Rattle.troubles.specs.Reaching.{reachWith, reachOf}
 use Rattle.troubles.specs.Setting.{setsOne}
-use Rattle.quick_test.specs.Tests.{granted, revoked}
+use Rattle.quick_criterion.specs.Tests.{granted, revoked}
 use Rattle.troubles.proofs.Idle.{idle}
-use Rattle.quick_test.proofs.MostAndLeast.{afterOne, Through, most-through, least-through, place-more}
+use Rattle.quick_criterion.proofs.MostAndLeast.{afterOne, Through, most-through, least-through, place-more}
 
 -- ---- one set
 

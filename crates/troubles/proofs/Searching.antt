@@ -18,7 +18,7 @@ use Rattle.asks.specs.Asks.{noAsk}
 use Rattle.board.specs.declared.Duty.{Duty}
 use Rattle.board.specs.Filler.{noDuty}
 use Rattle.troubles.specs.declared.Trouble.the-variants.{Nothing}
-use Rattle.quick_test.specs.Tests.{canBeMet, makesWrong, inTrouble}
+use Rattle.quick_criterion.specs.Tests.{canBeMet, makesWrong, inTrouble}
 use Rattle.troubles.specs.Troubles.{Stuck, Troubled}
 
 -- none of the first i duties of the pool is in trouble

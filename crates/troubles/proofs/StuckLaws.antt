@@ -24,11 +24,11 @@ use Rattle.board.specs.View.{View}
 use Rattle.asks.specs.declared.Ask.{Ask}
 use Rattle.asks.specs.Asks.{noAsk, askOf, AsksOf}
 use Rattle.troubles.specs.declared.Trouble.the-variants.{Nothing}
-use Rattle.quick_test.specs.Tests.{canBeMet, makesWrong, inTrouble}
+use Rattle.quick_criterion.specs.Tests.{canBeMet, makesWrong, inTrouble}
 use Rattle.troubles.specs.Troubles.{Stuck, Troubled}
-use Rattle.quick_test.proofs.Alone.{aloneAt, can-be-met-alone}
-use Rattle.quick_test.proofs.NotRed.{WithinLimits}
-use Rattle.quick_test.proofs.Spoiled.{spoiled-need}
+use Rattle.quick_criterion.proofs.Alone.{aloneAt, can-be-met-alone}
+use Rattle.quick_criterion.proofs.NotRed.{WithinLimits}
+use Rattle.quick_criterion.proofs.Spoiled.{spoiled-need}
 
 -- what is asked for the first n duties of an array is what is asked for a pool of these
 pub first-asks :

@@ -20,9 +20,9 @@ use Rattle.troubles.specs.declared.pairs.Reach.{Reach}
 use Rattle.troubles.specs.declared.setting.Setter.{Setter}
 use Rattle.troubles.specs.Reaching.{reachWith, reachOf, metWith}
 use Rattle.troubles.specs.Setting.{setsOne, setterOf, userOf}
-use Rattle.quick_test.specs.Mends.{lastMinute, firstMend}
-use Rattle.quick_test.specs.Tests.{canBeMet, spoils, makesWrong}
-use Rattle.quick_test.proofs.Mending.{first-none}
+use Rattle.quick_criterion.specs.Mends.{lastMinute, firstMend}
+use Rattle.quick_criterion.specs.Tests.{canBeMet, spoils, makesWrong}
+use Rattle.quick_criterion.proofs.Mending.{first-none}
 use Rattle.troubles.proofs.AllMends.{as-many, at-place, mendIn}
 use Rattle.troubles.proofs.Idle.{mends-kept, wrong-kept}
 use Rattle.troubles.proofs.Reached.{reach-none, reach-more, reach-kept}

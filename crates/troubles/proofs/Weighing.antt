@@ -16,10 +16,10 @@ use Rattle.troubles.specs.declared.pairs.Reach.{Reach}
 use Rattle.troubles.specs.declared.setting.Setter.{Setter}
 use Rattle.troubles.specs.Reaching.{reachWith}
 use Rattle.troubles.specs.Setting.{userOf, grantsOf, revokesOf, setterOf, isAgainst}
-use Rattle.quick_test.specs.Mends.{lastMinute, firstMend}
-use Rattle.quick_test.specs.Tests.{makesWrong}
+use Rattle.quick_criterion.specs.Mends.{lastMinute, firstMend}
+use Rattle.quick_criterion.specs.Tests.{makesWrong}
 use Rattle.troubles.proofs.Bits.{granted-is, revoked-is, needs-opposite-is}
-use Rattle.quick_test.proofs.Mending.{and-false, mended-by}
+use Rattle.quick_criterion.proofs.Mending.{and-false, mended-by}
 
 -- ---- whether x makes a need of d wrong
 

@@ -4,12 +4,12 @@ use mathlib.Core.Bool.{Bool, _&&_, cond}
 use mathlib.Core.List.{List}
 use Prim.Native.Nat.{ℕ}
 use Rattle.roles.specs.Roles.{inSet}
-use Rattle.acts.specs.Meets.{meetsSets}
+use Rattle.permitted.specs.Meets.{meetsSets}
 use Rattle.asks.specs.declared.Ask.{Ask}
 use Rattle.board.specs.declared.Duty.{Duty}
 use Rattle.board.specs.Windows.{whollyBefore}
 use Rattle.troubles.specs.declared.pairs.Reach.{Reach}
-use Rattle.quick_test.specs.Tests.{granted, revoked, most, least}
+use Rattle.quick_criterion.specs.Tests.{granted, revoked, most, least}
 
 -- one duty more
 abbrev pub reachWith : Duty → Ask → Reach → Duty → Reach

@@ -12,7 +12,7 @@ use Rattle.board.specs.declared.Duty.{Duty}
 use Rattle.board.specs.Filler.{noDuty}
 use Rattle.troubles.specs.declared.Trouble.{Trouble}
 use Rattle.troubles.specs.declared.Trouble.the-variants.{Nothing, Found}
-use Rattle.quick_test.specs.Tests.{canBeMet, makesWrong, inTrouble}
+use Rattle.quick_criterion.specs.Tests.{canBeMet, makesWrong, inTrouble}
 
 -- The duty d of this serial, at its place of the pool, gets stuck: it cannot be met at all, and x is d; or x
 -- makes a need of it wrong.

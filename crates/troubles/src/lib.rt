@@ -56,8 +56,8 @@ pub fn trouble_of(
             };
         }
         let actor = roles::with_role(0, ask.actor);
-        let own = acts::held_by(holdings, d.doer);
-        let theirs = acts::held_by(holdings, ask.target);
+        let own = permitted::held_by(holdings, d.doer);
+        let theirs = permitted::held_by(holdings, ask.target);
         let mut reach = Reach {
             own,
             most: theirs,

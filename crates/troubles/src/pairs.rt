@@ -9,8 +9,8 @@ ghost use lib.Dec.{eqb};
 ghost use Rattle.roles.specs.Roles.{withRole};
 ghost use Rattle.board.specs.declared.Duty.{Duty};
 ghost use Rattle.troubles.specs.Setting.{setterOf, isAgainst};
-ghost use Rattle.quick_test.specs.Mends.{lastMinute, firstMend};
-ghost use Rattle.quick_test.specs.Tests.{makesWrong};
+ghost use Rattle.quick_criterion.specs.Mends.{lastMinute, firstMend};
+ghost use Rattle.quick_criterion.specs.Tests.{makesWrong};
 ghost use Rattle.troubles.specs.Reaching.{reachWith, metWith};
 
 // What the duties wholly before one can make of the sets of two users: the doer's and the target's with every
@@ -89,5 +89,6 @@ pub(crate) fn can_be_met(reach: Reach, ask: Ask) -> bool
     ensures { λ r. ⌜ r ≡ metWith reach ask ⌝ }
 {
     roles::holds(reach.own, ask.actor)
-        & (acts::meets(reach.most, ask.wanted, 0) & acts::meets(reach.least, 0, ask.barred))
+        & (permitted::meets(reach.most, ask.wanted, 0)
+            & permitted::meets(reach.least, 0, ask.barred))
 }

@@ -12,7 +12,7 @@ ghost use Rattle.orders.specs.Lists.{keep};
 ghost use Rattle.board.specs.declared.Duty.{Duty};
 ghost use Rattle.board.specs.Limits.{maxDuties};
 ghost use Rattle.troubles.specs.Setting.{setsOne, setterOf};
-ghost use Rattle.quick_test.specs.Mends.{lastMinute, firstMend};
+ghost use Rattle.quick_criterion.specs.Mends.{lastMinute, firstMend};
 
 // The last minute.
 pub(crate) const LAST_MINUTE: u32 = 4294967295;

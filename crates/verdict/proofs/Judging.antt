@@ -18,7 +18,7 @@ use Rattle.orders.proofs.Lists.{at-cons}
 use Rattle.orders.proofs.SameMembers.{stuck-same}
 use Rattle.orders.proofs.Tests.{and-true}
 use Rattle.orders.proofs.TrailFails.{trail-fails}
-use Rattle.acts.proofs.Laws.{holdings-view}
+use Rattle.permitted.proofs.Laws.{holdings-view}
 use Rattle.asks.specs.declared.Ask.{Ask}
 use Rattle.asks.specs.Asks.{askOf, AsksOf}
 use Rattle.board.specs.declared.Board.{Board}
@@ -38,7 +38,7 @@ use Rattle.trails.specs.Walking.{serials, InRange, Walked}
 use Rattle.trails.proofs.Cutting.{trail-written}
 use Rattle.troubles.specs.declared.Trouble.the-variants.{Nothing}
 use Rattle.troubles.specs.Troubles.{Stuck, Troubled}
-use Rattle.quick_test.proofs.NotRed.{WithinLimits, good-limits, not-red}
+use Rattle.quick_criterion.proofs.NotRed.{WithinLimits, good-limits, not-red}
 use Rattle.troubles.proofs.StuckLaws.{first-asks, nothing-found, stuck-by, stuck-open}
 
 module _ (b : Board) (sized : Sized b) (is-good : good b ≡ true) where

@@ -22,13 +22,14 @@ use Rattle.after.proofs.FitsLaws.{withdrawn-fits}
 use Rattle.outcomes.specs.declared.Outcome.{Outcome}
 use Rattle.outcomes.specs.Outcomes.{Flagged, refusedWith, Judges}
 use Rattle.outcomes.proofs.Judging.{refused-called, refused-flagged, judged-called}
-use Rattle.requests.specs.declared.AskWithdraw.{AskWithdraw}
+use Rattle.requests.specs.declared.RequestWithdraw.{RequestWithdraw}
 use Rattle.withdraw.specs.Withdraws.{afterWithdraw, withdrawEarlier, Withdraws}
 
 -- ---- no earlier check applies
 
 module _
-    (b : Board) (size : Sized b) (room : ℕ) (q : AskWithdraw) (none : NoneApplies (withdrawEarlier b room q))
+    (b : Board) (size : Sized b) (room : ℕ) (q : RequestWithdraw)
+    (none : NoneApplies (withdrawEarlier b room q))
   where
     whole : good b ≡ true
     whole = is-true (good b) (none .0)
@@ -38,7 +39,7 @@ module _
 
 -- ---- what withdraw promises
 
-module _ (b : Board) (size : Sized b) (before : List ℕ) (q : AskWithdraw) (number : ℕ)
+module _ (b : Board) (size : Sized b) (before : List ℕ) (q : RequestWithdraw) (number : ℕ)
     (answers : Answers (withdrawEarlier b (length before) q) number) where
   pub refused-withdraws :
       (r : Outcome) → r ≡ refusedWith b number → (number ≡ answer.done → ⊥)

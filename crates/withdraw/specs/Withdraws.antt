@@ -15,14 +15,14 @@ use Rattle.board.specs.Limits.{maxDuties}
 use Rattle.board.specs.Numbers as answer
 use Rattle.board.specs.Open.{NotOpen}
 use Rattle.board.specs.View.{View, view}
-use Rattle.requests.specs.declared.AskWithdraw.{AskWithdraw}
+use Rattle.requests.specs.declared.RequestWithdraw.{RequestWithdraw}
 
 -- the board says this after an accepted withdrawal: the duty is removed
-abbrev pub afterWithdraw : Board → AskWithdraw → View
+abbrev pub afterWithdraw : Board → RequestWithdraw → View
 afterWithdraw b q = withdrawn (view b) (q .clock) (q .serial .0)
 
 -- 19, 9, 10, 12
-abbrev pub withdrawEarlier : Board → ℕ → AskWithdraw → List Check
+abbrev pub withdrawEarlier : Board → ℕ → RequestWithdraw → List Check
 withdrawEarlier b room q =
     check answer.broken (good b ≡ false)
     ∷ check answer.list (room < maxDuties)
@@ -31,10 +31,10 @@ withdrawEarlier b room q =
     ∷ []
 
 -- Withdraw: 19, 9, 10, 12, 8.
-abbrev pub withdrawChecks : Board → ℕ → AskWithdraw → List Check
+abbrev pub withdrawChecks : Board → ℕ → RequestWithdraw → List Check
 withdrawChecks b room q = withdrawEarlier b room q ++ (check answer.red (Red (afterWithdraw b q)) ∷ [])
 
 -- A withdrawal answers no serial.
-abbrev pub Withdraws : Board → List ℕ → AskWithdraw → Answer → Board → List ℕ → Type 0
+abbrev pub Withdraws : Board → List ℕ → RequestWithdraw → Answer → Board → List ℕ → Type 0
 Withdraws b before q r left after =
     Called (withdrawChecks b (length before) q) b (afterWithdraw b q) 0 before after r left

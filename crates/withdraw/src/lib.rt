@@ -4,13 +4,13 @@ use board::Board;
 use board::Serial;
 use outcomes::Outcome;
 use pool::Found;
-use requests::AskWithdraw;
+use requests::RequestWithdraw;
 ghost use Rattle.board.specs.Answers.{Answers};
 ghost use Rattle.outcomes.specs.Outcomes.{Flagged};
 ghost use Rattle.withdraw.specs.Withdraws.{withdrawEarlier, Withdraws};
 
 // 19, 9, 10, 12, or 0 where none of these applies.
-fn refusal(b: Board, room: usize, q: AskWithdraw) -> u8
+fn refusal(b: Board, room: usize, q: RequestWithdraw) -> u8
     ensures { λ r. ⌜ Answers (withdrawEarlier b room q) r ⌝ }
 {
     if !values::is_good(b) {
@@ -33,7 +33,7 @@ fn refusal(b: Board, room: usize, q: AskWithdraw) -> u8
 }
 
 // Withdraw: 19, 9, 10, 12, 8.
-pub fn withdraw(b: Board, list: &mut [u32], q: AskWithdraw) -> Outcome
+pub fn withdraw(b: Board, list: &mut [u32], q: RequestWithdraw) -> Outcome
     ensures { λ r.
         ⌜ Withdraws b (now (list .entry)) q (r .answer) (r .board) (now (list .exit)) × Flagged r ⌝ }
 {

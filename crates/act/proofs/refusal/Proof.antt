@@ -14,7 +14,7 @@ use Rattle.board.specs.Good.{good}
 use Rattle.board.specs.Green.{permittedNow}
 use Rattle.board.specs.View.{view}
 use Rattle.board.proofs.GoodLaws.{good→filler}
-use Rattle.acts.proofs.Laws.{permitted-now}
+use Rattle.permitted.proofs.Laws.{permitted-now}
 use Rattle.act.specs.ActsNow.{whatNow, actEarlier}
 use Rattle.act.proofs.refusal.Statement.{statement}
 use Rattle.act.proofs.refusal.Tie as tie

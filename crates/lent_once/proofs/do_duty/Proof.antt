@@ -41,9 +41,9 @@ use Rattle.board.proofs.Answer as An
 use Rattle.board.proofs.Answer.Laws as An′
 use Rattle.board.proofs.Board as B
 use Rattle.board.proofs.Board.Laws as B′
-use Rattle.requests.specs.declared.AskDo.{AskDo}
-use Rattle.requests.proofs.AskDo as Q
-use Rattle.requests.proofs.AskDo.Laws as Q′
+use Rattle.requests.specs.declared.RequestDo.{RequestDo}
+use Rattle.requests.proofs.RequestDo as Q
+use Rattle.requests.proofs.RequestDo.Laws as Q′
 use Rattle.do_duty.specs.Does.{Does}
 use Rattle.lending.proofs.Steps.{board-val, IsBoard, board-typed, answer-typed, at-local, sets, has, sinks}
 use Rattle.lending.proofs.Steps.{leaves}
@@ -64,7 +64,7 @@ abbrev Lent :
     → Contract 𝓤
 Lent 𝓤 H A mem run = tripleOf 𝓤 H A lent.signature (lent.spec 𝓤 H A mem run)
 
-abbrev ask-val : AskDo → Val
+abbrev ask-val : RequestDo → Val
 ask-val = LL.val Q.the-type Q′.the-laws
 
 abbrev stayed : Stays (once.ended .signature .params) (once.ended .kept)
@@ -74,9 +74,9 @@ stayed = (stay-none (λ _. B.the-row) yes, (stay-none (λ _. Q.the-row) yes, tt)
 -- of the board
 
 module _ {M : Type 1} (𝓤 : URA M) (H : Heap 𝓤) (A : Atoms 𝓤) (W : Given 𝓤 H A) (mem : Memory → SProp 𝓤)
-    (run : Routine → Fun 𝓤) (h : Board) (h-is : IsBoard h) (n : AskDo)
+    (run : Routine → Fun 𝓤) (h : Board) (h-is : IsBoard h) (n : RequestDo)
     (n-is : Is Q.the-row n (ask-val n ∷ [])) where
-  abbrev args : Board × (AskDo × Unit {0})
+  abbrev args : Board × (RequestDo × Unit {0})
   args = (h, (n, tt))
 
   abbrev vals : List Val × (List Val × Unit {0})

@@ -48,7 +48,7 @@ use Rattle.board.proofs.Answer as An
 use Rattle.board.proofs.Answer.Laws as An′
 use Rattle.board.proofs.Board as B
 use Rattle.board.proofs.Board.Laws as B′
-use Rattle.calls.specs.Opens.{Opens}
+use Rattle.open.specs.Opens.{Opens}
 use Rattle.lending.proofs.Steps.{board-val, IsBoard, board-typed, answer-typed, at-local, at-field, sets, has}
 use Rattle.lending.proofs.Steps.{sinks, leaves}
 use Rattle.live.proofs.open as lent

@@ -51,9 +51,9 @@ use Rattle.outcomes.specs.declared.Outcome.{Outcome}
 use Rattle.outcomes.specs.Outcomes.{Flagged}
 use Rattle.outcomes.proofs.Outcome as O
 use Rattle.outcomes.proofs.Outcome.Laws as O′
-use Rattle.requests.specs.declared.AskDo.{AskDo}
-use Rattle.requests.proofs.AskDo as Q
-use Rattle.requests.proofs.AskDo.Laws as Q′
+use Rattle.requests.specs.declared.RequestDo.{RequestDo}
+use Rattle.requests.proofs.RequestDo as Q
+use Rattle.requests.proofs.RequestDo.Laws as Q′
 use Rattle.do_duty.specs.Does.{Does}
 use Rattle.do_duty.proofs.do_duty as value
 use Rattle.do_duty.proofs.do_duty.Symbol as value-def
@@ -73,7 +73,7 @@ abbrev Value :
     → Contract 𝓤
 Value 𝓤 H A mem run = tripleOf 𝓤 H A value.signature (value.spec 𝓤 H A mem run)
 
-abbrev ask-val : AskDo → Val
+abbrev ask-val : RequestDo → Val
 ask-val = LL.val Q.the-type Q′.the-laws
 
 -- at the end the board's borrow is still there
@@ -87,12 +87,12 @@ last = seq (assign (place 0 []) (rvOpd (copy (place 3 (field 0 ∷ []))))) retur
 -- ---- the walk, at a reference x to the board and n asked
 
 module _ {M : Type 1} (𝓤 : URA M) (H : Heap 𝓤) (A : Atoms 𝓤) (W : Given 𝓤 H A) (mem : Memory → SProp 𝓤)
-    (run : Routine → Fun 𝓤) (κ : Lft) (q : Share) (x : RefT Board) (n : AskDo)
+    (run : Routine → Fun 𝓤) (κ : Lft) (q : Share) (x : RefT Board) (n : RequestDo)
     (n-is : Is Q.the-row n (ask-val n ∷ [])) where
   abbrev p : Val
   p = vptr (x .ptr .0) (x .ptr .1)
 
-  abbrev args : RefT Board × (AskDo × Unit {0})
+  abbrev args : RefT Board × (RequestDo × Unit {0})
   args = (x, (n, tt))
 
   abbrev vals : List Val × (List Val × Unit {0})

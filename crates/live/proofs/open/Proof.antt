@@ -47,14 +47,14 @@ use Rattle.board.specs.declared.Board.{Board}
 use Rattle.board.proofs.Answer as An
 use Rattle.board.proofs.Answer.Laws as An′
 use Rattle.board.proofs.Board as B
-use Rattle.calls.specs.declared.Opened.{Opened}
-use Rattle.calls.specs.Opens.{Opens}
-use Rattle.calls.proofs.Opened as O
-use Rattle.calls.proofs.Opened.Laws as O′
-use Rattle.calls.proofs.open as value
-use Rattle.calls.proofs.open.Symbol as value-def
-use Rattle.calls.proofs.open.Symbol.{name as #value}
-use Rattle.calls.proofs.open.Met as value-met
+use Rattle.open.specs.declared.Opened.{Opened}
+use Rattle.open.specs.Opens.{Opens}
+use Rattle.open.proofs.Opened as O
+use Rattle.open.proofs.Opened.Laws as O′
+use Rattle.open.proofs.open as value
+use Rattle.open.proofs.open.Symbol as value-def
+use Rattle.open.proofs.open.Symbol.{name as #value}
+use Rattle.open.proofs.open.Met as value-met
 use Rattle.lending.proofs.Steps.{answer-val, IsBoard, IsAnswer, borrowed, board-typed, answer-typed}
 use Rattle.lending.proofs.Steps.{at-local, at-field, sets, has, opens-board, closes-board, sinks, leaves}
 use Rattle.live.proofs.open as lent
@@ -282,4 +282,4 @@ open-spec 𝓤 H 𝓜 𝓖 𝓡 =
     (tables 𝓤 H 𝓜 𝓡 code.env .C) (tables 𝓤 H 𝓜 𝓡 code.env .Λ) #lent code.function (code.unfolded 𝓤 H 𝓜 𝓡)
     (meets 𝓤 H (𝓖 .A) (givenOf 𝓤 H 𝓜 𝓖) (𝓜 .mem) (𝓡 .run) (tablesOf 𝓤 H 𝓜 (tables 𝓤 H 𝓜 𝓡 code.env))
     (cited 𝓤 H (Value 𝓤 H (𝓖 .A) (𝓜 .mem) (𝓡 .run)) 𝓜 𝓡 code.env #value value-def.routine
-    code.calls-calls·open (value-met.met 𝓤 H 𝓜 𝓖 𝓡)))
+    code.calls-open·open (value-met.met 𝓤 H 𝓜 𝓖 𝓡)))

@@ -16,7 +16,7 @@ use Rattle.board.specs.Limits.{maxDuties}
 use Rattle.board.specs.View.{view}
 use Rattle.board.proofs.Sized.{sized}
 use Rattle.pool.proofs.Turns.{in-turn, at-end}
-use Rattle.acts.proofs.permitted.Reads as permitted-reads
+use Rattle.permitted.proofs.permitted.Reads as permitted-reads
 use Rattle.after.proofs.did.Reads as did-reads
 use Rattle.pool.proofs.is_held_back.Reads as is-held-back-reads
 use Rattle.plain.proofs.Turns.{Tried, Ended, foundWith, begun, passed-over, nothing-found, found, over}

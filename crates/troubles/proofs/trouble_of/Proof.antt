@@ -15,7 +15,7 @@ use Rattle.asks.specs.Asks.{noAsk}
 use Rattle.board.specs.Filler.{noDuty}
 use Rattle.board.specs.Limits.{maxDuties}
 use Rattle.pool.proofs.Turns.{in-turn, at-end}
-use Rattle.quick_test.specs.Tests.{canBeMet, makesWrong}
+use Rattle.quick_criterion.specs.Tests.{canBeMet, makesWrong}
 use Rattle.troubles.specs.declared.pairs.Reach.{Reach}
 use Rattle.troubles.specs.Reaching.{metWith}
 use Rattle.troubles.proofs.Weighed.{settersIn, Ready, ready, Table, table-starts, table-made}

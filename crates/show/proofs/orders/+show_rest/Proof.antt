@@ -5,7 +5,7 @@ use native.Mathlib.Omega.{arith}
 use borrow.Author.Needs.{needs}
 use borrow.Fn.Kinds.{In}
 use borrow.Fn.PlainCycle.{Measures, is, falls, and}
-use Rattle.acts.proofs.permitted.Reads as permitted
+use Rattle.permitted.proofs.permitted.Reads as permitted
 use Rattle.after.proofs.did.Reads as did
 use Rattle.pool.proofs.is_held_back.Reads as is-held-back
 use Rattle.board.proofs.within.Reads as within

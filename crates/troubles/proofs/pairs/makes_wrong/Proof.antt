@@ -2,7 +2,7 @@
 -- opposite of what it sets is asked.
 use Prim.Native.Nat.{_≤_}
 use borrow.Author.Needs.{needs}
-use Rattle.quick_test.specs.Mends.{lastMinute}
+use Rattle.quick_criterion.specs.Mends.{lastMinute}
 use Rattle.troubles.proofs.Weighing.{wholly-later, mended, itself, left-wrong}
 use Rattle.troubles.proofs.pairs.makes_wrong.Statement.{statement}
 use Rattle.troubles.proofs.pairs.makes_wrong.Tie as tie
