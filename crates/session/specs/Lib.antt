@@ -2,3 +2,4 @@
 pub mod Input
 pub mod Sessions
 pub mod Pokes
+pub mod Played
