@@ -13,8 +13,8 @@ use Rattle.session.proofs.Making.{
 use Rattle.session.proofs.call.called.Statement.{statement}
 use Rattle.session.proofs.call.called.Tie as tie
 
-ask-admit-requires : tie.Need-ask-admit-requires
-ask-admit-requires c κs = search needs
+request-admit-requires : tie.Need-request-admit-requires
+request-admit-requires c κs = search needs
 
 admit-requires : tie.Need-admit-requires
 admit-requires c κs = search needs
@@ -28,11 +28,11 @@ returns c =
     let asked = call .before in
     let test = asked .before .before in
     let s = test .before .before .before .args in
-    made-admit (s .b) (s .r) (s .list .now) _ (call .admit .result) (asked .ask-admit .result)
-    (test .if1 .taken) (asked .ask-admit .ensures) (call .admit .ensures)
+    made-admit (s .b) (s .r) (s .list .now) _ (call .admit .result) (asked .request-admit .result)
+    (test .if1 .taken) (asked .request-admit .ensures) (call .admit .ensures)
 
-ask-act-requires : tie.Need-ask-act-requires
-ask-act-requires c κs = search needs
+request-act-requires : tie.Need-request-act-requires
+request-act-requires c κs = search needs
 
 act-requires : tie.Need-act-requires
 act-requires c κs = search needs
@@ -47,11 +47,12 @@ returns-2 c =
     let test = asked .before .before in
     let first = test .before .before in
     let s = first .before .before .before .args in
-    made-act (s .b) (s .r) (s .list .now) _ (call .act .result) (asked .ask-act .result) (test .if2 .taken)
-    (asked .ask-act .ensures) (call .act .ensures)
+    made-act (s .b) (s .r) (s .list .now) _ (call .act .result) (asked .request-act .result)
+    (test .if2 .taken)
+    (asked .request-act .ensures) (call .act .ensures)
 
-ask-do-requires : tie.Need-ask-do-requires
-ask-do-requires c κs = search needs
+request-do-requires : tie.Need-request-do-requires
+request-do-requires c κs = search needs
 
 do-duty-requires : tie.Need-do-duty-requires
 do-duty-requires c κs = search needs
@@ -63,11 +64,11 @@ returns-3 c =
     let second = test .before .before in
     let first = second .before .before in
     let s = first .before .before .before .args in
-    made-do (s .b) (s .r) (s .list .now) _ (c .do-duty .result) (asked .ask-do .result) (test .if3 .taken)
-    (asked .ask-do .ensures) (c .do-duty .ensures) refl
+    made-do (s .b) (s .r) (s .list .now) _ (c .do-duty .result) (asked .request-do .result) (test .if3 .taken)
+    (asked .request-do .ensures) (c .do-duty .ensures) refl
 
-ask-withdraw-requires : tie.Need-ask-withdraw-requires
-ask-withdraw-requires c κs = search needs
+request-withdraw-requires : tie.Need-request-withdraw-requires
+request-withdraw-requires c κs = search needs
 
 withdraw-requires : tie.Need-withdraw-requires
 withdraw-requires c κs = search needs
@@ -84,8 +85,8 @@ returns-4 c =
     let second = third .before .before in
     let first = second .before .before in
     let s = first .before .before .before .args in
-    made-withdraw (s .b) (s .r) (s .list .now) _ (call .withdraw .result) (asked .ask-withdraw .result)
-    (test .if4 .taken) (asked .ask-withdraw .ensures) (call .withdraw .ensures)
+    made-withdraw (s .b) (s .r) (s .list .now) _ (call .withdraw .result) (asked .request-withdraw .result)
+    (test .if4 .taken) (asked .request-withdraw .ensures) (call .withdraw .ensures)
 
 check-requires : tie.Need-check-requires
 check-requires c κs = search needs
@@ -149,18 +150,18 @@ pub called-spec : {M : Type 1} → statement M
 called-spec =
     tie.close
     (tie.spec
-    ask-admit-requires
+    request-admit-requires
     admit-requires
     same-length
     returns
-    ask-act-requires
+    request-act-requires
     act-requires
     same-length-2
     returns-2
-    ask-do-requires
+    request-do-requires
     do-duty-requires
     returns-3
-    ask-withdraw-requires
+    request-withdraw-requires
     withdraw-requires
     same-length-3
     returns-4
