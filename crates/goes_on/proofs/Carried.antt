@@ -17,6 +17,7 @@ use Rattle.board.proofs.AnswersLaws.{none-done}
 use Rattle.layout.specs.Layout.{headerSize, longest}
 use Rattle.save.specs.Saves.{saved, saveChecks, Saves}
 use Rattle.save.proofs.FileLaws.{saved-length, saved-fits}
+use Rattle.save.proofs.Settled.{same-save}
 use Rattle.open.specs.declared.Opened.{Opened}
 use Rattle.open.specs.Opens.{Opens}
 use Rattle.open.proofs.Tick.{open-ticks}
@@ -73,7 +74,16 @@ leaves-settled s left left′ c d =
     played-settled (recordsOf s) (c .opened .board) left left′ (c .played)
     (subst (λ (b : Board). Played b (recordsOf s) left′) same (d .played))
 
--- Two files carried from one session are the same bytes, whatever lists and buffers were lent.
+-- Saved in the same buffer, two outcomes are one answer and leave one buffer.
+pub same-carried :
+    (s : List ℕ) (left left′ : Board) → Leaves s left → Leaves s left′
+    → (before after after′ : List ℕ) (r r′ : Answer) → Saves left before after r
+    → Saves left′ before after′ r′ → (r ≡ r′) × (after ≡ after′)
+same-carried s left left′ c d before after after′ r r′ k k′ =
+    same-save left before after after′ r r′ k
+    (subst (λ (b : Board). Saves b before after′ r′) (sym (leaves-settled s left left′ c d)) k′)
+
+-- In whatever buffers, with room for the longest file: two files carried from one session are the same bytes.
 pub carried-settled :
     (s : List ℕ) (left left′ : Board) → Leaves s left → Leaves s left′
     → (before after : List ℕ) (r : Answer) → Saves left before after r → longest ≤ length before

@@ -3,4 +3,4 @@ pub mod Settled
 pub mod OneBoard
 pub mod AsCalls
 pub mod Carried
-pub mod TwoRecords
+pub mod ByteByByte

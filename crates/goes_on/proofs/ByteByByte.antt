@@ -1,6 +1,6 @@
--- A session byte by byte, by computation: a board file of three bytes, an admission, a poke, and five bytes
--- of an incomplete record. So the places of the fields and their order of bytes are those of docs/REPLAY.md,
--- and what is incomplete is left out.
+-- Sessions byte by byte, by computation, so that what is read is what docs/REPLAY.md says: a board file of
+-- three bytes, an admission, a poke, and five bytes of an incomplete record, which is left out; fewer than
+-- four bytes; and a board file that is said to be longer than the input.
 use mathlib.Core.Path.{_≡_, refl}
 use mathlib.Core.List.{List, [], _∷_}
 use Prim.Native.Nat.{ℕ}
@@ -56,3 +56,11 @@ poke =
 
 pub two-records : (fileBytes session ≡ 7 ∷ 8 ∷ 9 ∷ []) × (recordsOf session ≡ admission ∷ poke ∷ [])
 two-records = (refl, refl)
+
+pub too-short : (fileBytes (3 ∷ 0 ∷ 7 ∷ []) ≡ []) × (recordsOf (3 ∷ 0 ∷ 7 ∷ []) ≡ [])
+too-short = (refl, refl)
+
+pub said-longer :
+    (fileBytes (0 ∷ 1 ∷ 0 ∷ 0 ∷ 7 ∷ 8 ∷ []) ≡ 7 ∷ 8 ∷ [])
+    × (recordsOf (0 ∷ 1 ∷ 0 ∷ 0 ∷ 7 ∷ 8 ∷ []) ≡ [])
+said-longer = (refl, refl)
