@@ -1,6 +1,6 @@
 -- What the board says after an accepted call keeps the rules and has room; and it is green if the board was.
--- After a duty was done that follows from the theory, since no open duty is wholly before it; after an
--- admission, an act and a withdrawal from the check of 8.
+-- After a duty was done that follows from the theory, since no open duty is wholly before it; after an open,
+-- an admission, an act and a withdrawal from the check of 8.
 use mathlib.Core.Path.{_≡_, refl, sym}
 use mathlib.Core.Bool.{true, false}
 use mathlib.Core.List.{List, [], _∷_}
@@ -25,6 +25,9 @@ use Rattle.board.specs.Windows.{whollyBefore}
 use Rattle.board.proofs.AnswersLaws.{none-first, none-second, then-second}
 use Rattle.board.proofs.GreenLaws.{green-not-red}
 use Rattle.board.proofs.SayingLaws.{ViewFits, view-fits}
+use Rattle.file.specs.Reads.{readChecks, boardOf}
+use Rattle.file.proofs.Accepted.{accepted-sized, accepted-good}
+use Rattle.open.specs.Opens.{said, openChecks}
 use Rattle.requests.specs.declared.RequestAdmit.{RequestAdmit}
 use Rattle.requests.specs.declared.RequestDo.{RequestDo}
 use Rattle.after.proofs.FitsLaws.{did-fits}
@@ -35,7 +38,17 @@ use Rattle.act.proofs.Acting as acting
 use Rattle.do_duty.specs.Does.{HeldBack, doChecks}
 use Rattle.withdraw.specs.Withdraws.{afterWithdraw, withdrawEarlier}
 use Rattle.withdraw.proofs.Withdrawing as withdrawing
-use Rattle.promises.specs.Calls.{Call, admit, act, doDuty, withdraw, check as checks, save, walk}
+use Rattle.promises.specs.Calls.{
+  Call,
+  openFile,
+  admit,
+  act,
+  doDuty,
+  withdraw,
+  check as checks,
+  save,
+  walk,
+}
 use Rattle.promises.specs.GoodAndGreen.{Whole, GoodAndGreen}
 use Rattle.promises.proofs.DidLaws.{did-green}
 use Rattle.promises.proofs.Kept.{checksOf, afterCall}
@@ -55,8 +68,16 @@ admit-fits b size before q none =
     let earlier = admitEarlier b (length before) q in
     admitting.fits-after b size before q answer.done (then-second earlier [] answer.done none refl) refl
 
+-- what an accepted file says
+open-fits :
+    (s : List ℕ) (room : ℕ) → NoneApplies (openChecks s room) → ViewFits (said s)
+open-fits s room none =
+    let read = none-first (readChecks s) (redCheck (said s)) (none .1) in
+    view-fits (boardOf s) (accepted-sized s read) (accepted-good s read)
+
 pub after-fits :
     (b : Board) → Whole b → (call : Call) → NoneApplies (checksOf b call) → ViewFits (afterCall b call)
+after-fits b w (openFile before s) none = open-fits s (length before) none
 after-fits b w (admit before q) none =
     let past = none-first (admitEarlier b (length before) q) (redCheck (afterAdmit b q)) none in
     admit-fits b (w .sized) before q past
@@ -124,6 +145,9 @@ after-green b g (doDuty q) none =
 after-green b g (checks before) none = g .green
 after-green b g (save before) none = g .green
 after-green b g (walk before) none = g .green
+after-green b g (openFile before s) none =
+    green-not-red (said s) (open-fits s (length before) none .records)
+    (none-second (readChecks s) (redCheck (said s)) (none .1) .0)
 after-green b g (admit before q) none =
     let fits = after-fits b (g .whole) (admit before q) none in
     green-not-red (afterAdmit b q) (fits .records)

@@ -80,13 +80,13 @@ module _
 -- A board carried to another machine: opened, any calls made on it, saved and opened there, it is the board
 -- that the calls left.
 pub carried :
-    (s list list′ : List ℕ) (o : Opened) → Opens s list list′ o → o .answer .number ≡ answer.done
-    → (made : List Made) (left : Board) → Calls (o .board) made left
+    (s list list′ : List ℕ) (o : Opened) → Opens s list list′ o → (made : List Made) (left : Board)
+    → Calls (o .board) made left
     → (before after : List ℕ) (r : Answer) → Saves left before after r → r .number ≡ answer.done
     → (there there′ : List ℕ) (u : Opened) → Opens (fileIn after r) there there′ u → maxDuties ≤ length there
     → (u .answer .number ≡ answer.done) × (u .board ≡ left)
-carried s list list′ o p e made left calls before after r k done there there′ u q room =
-    let g = opened-stays-green s list list′ o p e made left calls in
+carried s list list′ o p made left calls before after r k done there there′ u q room =
+    let g = opened-stays-green s list list′ o p made left calls in
     saved-green left (g .whole .sized) before after r k done there there′ u q room (g .green)
 
 -- ---- saving what was opened

@@ -13,6 +13,7 @@ use Rattle.board.specs.declared.Answer.{Answer}
 use Rattle.board.specs.declared.Board.{Board}
 use Rattle.board.specs.Answers.{Check}
 use Rattle.board.specs.Called.{Called}
+use Rattle.board.specs.Filler.{smallestBoard}
 use Rattle.board.specs.Numbers as answer
 use Rattle.board.specs.Told.{Told, OrderTold}
 use Rattle.board.specs.View.{View, view}
@@ -22,13 +23,14 @@ use Rattle.save.specs.Saves.{saveChecks}
 use Rattle.save.proofs.Settled.{same-save}
 use Rattle.verdict.specs.Checked.{checkChecks}
 use Rattle.plain.proofs.Settled.{same-walk, walk-told}
+use Rattle.open.specs.Opens.{said, openChecks}
 use Rattle.admit.specs.Admits.{afterAdmit, admitChecks}
 use Rattle.act.specs.ActsNow.{afterAct, actChecks}
 use Rattle.do_duty.specs.Does.{afterDo, doChecks}
 use Rattle.withdraw.specs.Withdraws.{afterWithdraw, withdrawChecks}
-use Rattle.promises.specs.Calls.{Call, admit, act, doDuty, withdraw, check, save, walk, Keeps}
+use Rattle.promises.specs.Calls.{Call, openFile, admit, act, doDuty, withdraw, check, save, walk, Keeps}
 use Rattle.promises.specs.Settled.{Settled}
-use Rattle.promises.proofs.Kept.{lent}
+use Rattle.promises.proofs.Kept.{lent, open-called}
 
 -- ---- the lent list
 
@@ -98,6 +100,10 @@ pub call-settled :
     (b : Board) (call : Call) (after after′ : List ℕ) (r r′ : Answer) (left left′ : Board)
     → Keeps b call r left after → Keeps b call r′ left′ after′
     → Settled (lent call) after after′ r r′ left left′
+call-settled b (openFile before s) after after′ r r′ left left′ j k =
+    called-settled (openChecks s (length before)) smallestBoard (said s) 0 before after after′ r r′ left left′
+    (open-called s before after (record { answer = r; board = left }) j)
+    (open-called s before after′ (record { answer = r′; board = left′ }) k)
 call-settled b (admit before q) after after′ r r′ left left′ j k =
     called-settled (admitChecks b (length before) q) b (afterAdmit b q) (b .next .0) before after after′ r r′
     left left′ j k

@@ -1,5 +1,5 @@
--- Any calls on a live board, one after the other: any requests, clocks and lent lists, accepted or refused.
--- Of each outcome no more is known than that it keeps the call's promise.
+-- Any calls on a live board, one after the other: any files, requests, clocks and lent lists, accepted or
+-- refused. Of each outcome no more is known than that it keeps the call's promise.
 use mathlib.Core.Path.{_≡_}
 use mathlib.Core.List.{List, [], _∷_}
 use Prim.Native.Nat.{ℕ}
@@ -10,6 +10,7 @@ use Rattle.requests.specs.declared.RequestAdmit.{RequestAdmit}
 use Rattle.requests.specs.declared.RequestDo.{RequestDo}
 use Rattle.requests.specs.declared.RequestWithdraw.{RequestWithdraw}
 use Rattle.save.specs.Saves.{Saves}
+use Rattle.open.specs.Opens.{Opens}
 use Rattle.verdict.specs.Checked.{Checked}
 use Rattle.plain.specs.Walks.{Walks}
 use Rattle.admit.specs.Admits.{Admits}
@@ -17,8 +18,9 @@ use Rattle.act.specs.ActsNow.{ActsNow}
 use Rattle.do_duty.specs.Does.{Does}
 use Rattle.withdraw.specs.Withdraws.{Withdraws}
 
--- a call: the list or buffer lent to it, and what it asks
+-- a call: the list or buffer lent to it, and what it asks; open, the bytes of the file
 pub data Call : Type 0 where
+  openFile : List ℕ → List ℕ → Call
   admit : List ℕ → RequestAdmit → Call
   act : List ℕ → RequestAct → Call
   doDuty : RequestDo → Call
@@ -28,8 +30,9 @@ pub data Call : Type 0 where
   walk : List ℕ → Call
 
 -- The answer, the board value left and the lent list or buffer left keep the promise of the call on the board
--- value b.
+-- value b. An open puts its board in the place of b, accepted or refused.
 abbrev pub Keeps : Board → Call → Answer → Board → List ℕ → Type 0
+Keeps b (openFile before s) r left after = Opens s before after (record { answer = r; board = left })
 Keeps b (admit before q) r left after = Admits b before q r left after
 Keeps b (act before q) r left after = ActsNow b before q r left after
 Keeps b (doDuty q) r left after = Does b q r left × (after ≡ [])
