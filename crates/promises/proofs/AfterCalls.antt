@@ -2,14 +2,14 @@
 -- After a duty was done that follows from the theory, since no open duty is wholly before it; after an open,
 -- an admission, an act and a withdrawal from the check of 8.
 use mathlib.Core.Path.{_≡_, refl, sym}
-use mathlib.Core.Bool.{true, false}
+use mathlib.Core.Bool.{true}
 use mathlib.Core.List.{List, [], _∷_}
 use mathlib.Core.Logic.{⊎-elim}
 use lib.ListN.{length}
 use Prim.Native.Nat.{ℕ}
 use borrow.Author.Tests.{eqb-true, eq-eqb}
 use Rattle.orders.specs.Walks.{Next}
-use Rattle.orders.specs.Lists.{Mem, any}
+use Rattle.orders.specs.Lists.{Mem}
 use Rattle.orders.proofs.Lists.{any-false, find-case, mid}
 use Rattle.orders.proofs.Tests.{clash, is-false}
 use Rattle.board.specs.declared.Board.{Board}
@@ -94,6 +94,20 @@ after-fits b w (walk before) none = whole-fits b w
 
 -- ---- it is green
 
+-- where some open duty has this serial, the duty that has it
+pub named-open :
+    (v : View) (serial : ℕ) → (NotOpen v serial → ⊥)
+    → (d : Duty) × Mem d (v .duties) × (d .serial .0 ≡ serial)
+named-open v serial some =
+    ⊎-elim
+    (λ n. absurd (some (λ d m e. clash (eq-eqb serial (d .serial .0) (sym e)) (any-false _ (n .missed) m))))
+    (λ f. (
+      f .x,
+      rw (f .is) (mid (f .earlier) (f .later)),
+      sym (eqb-true serial (f .x .serial .0) (f .passes)),
+    ))
+    (find-case (named serial) (v .duties))
+
 -- the open duty that do names: no open duty is wholly before it
 record NextNamed (b : Board) (serial : ℕ) : Type 0 where
   duty : Duty
@@ -124,17 +138,10 @@ module _ (b : Board) (q : RequestDo) (none : NoneApplies (doChecks b q)) where
             holds = record { other = y; open-other = n; before = t };
           }
 
-  none-named : any (named (q .serial .0)) (view b .duties) ≡ false → NotOpen (view b) (q .serial .0)
-  none-named missed d m e = clash (eq-eqb (q .serial .0) (d .serial .0) (sym e)) (any-false _ missed m)
-
   next-named : NextNamed b (q .serial .0)
   next-named =
-      ⊎-elim
-      (λ n. absurd (none .1 .1 .0 (none-named (n .missed))))
-      (λ f.
-      let same = eqb-true (q .serial .0) (f .x .serial .0) (f .passes) in
-      named-next (f .x) (rw (f .is) (mid (f .earlier) (f .later))) (sym same))
-      (find-case (named (q .serial .0)) (view b .duties))
+      let found = named-open (view b) (q .serial .0) (none .1 .1 .0) in
+      named-next (found .0) (found .1) (found .2)
 
 pub after-green :
     (b : Board) → GoodAndGreen b → (call : Call) → NoneApplies (checksOf b call) → Green (afterCall b call)

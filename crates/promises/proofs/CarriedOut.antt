@@ -31,7 +31,7 @@ use Rattle.promises.specs.Calls.{doDuty}
 use Rattle.promises.specs.GoodAndGreen.{Whole, GoodAndGreen}
 use Rattle.promises.specs.InTurn.{NoneOver, earliestDo, DoneInTurn, CanBeDone}
 use Rattle.promises.proofs.AfterCalls.{whole-fits, after-fits}
-use Rattle.promises.proofs.DidLaws.{pool, one-duty, did-held}
+use Rattle.promises.proofs.DidLaws.{pool, of-named, did-held}
 use Rattle.promises.proofs.StaysGreen.{step-whole}
 
 -- the theory carries this order out on what the board says: the last minute of a duty is its end
@@ -53,8 +53,7 @@ module _
 
     -- what holds of the duty with d's serial holds of d
     of-d : (Holds : Duty → Type 0) → OpenWith v (d .serial .0) Holds → Holds d
-    of-d Holds o =
-        subst Holds (one-duty v fits (o .duty) d (o .open-duty) (c .3 .open-d) (o .has-serial)) (o .holds)
+    of-d = of-named v fits d (c .3 .open-d) (d .serial .0) refl
 
     in-window : inWindow (earliestDo b d .clock) d ≡ true
     in-window =

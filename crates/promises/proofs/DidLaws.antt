@@ -1,6 +1,6 @@
 -- A duty done, on a board that keeps the rules: the duty with its serial is that one, so the board after has
 -- the holdings and the duties that the theory of orders says. Hence: green stays green.
-use mathlib.Core.Path.{_≡_, refl, sym, ap, _∙_}
+use mathlib.Core.Path.{_≡_, refl, sym, ap, subst, _∙_}
 use mathlib.Core.Logic.{⊎-elim}
 use mathlib.Core.Option.{some}
 use Prim.Native.Nat.{ℕ}
@@ -16,6 +16,7 @@ use Rattle.orders.proofs.Tests.{clash}
 use Rattle.board.specs.declared.Duty.{Duty}
 use Rattle.board.specs.After.{named, did}
 use Rattle.board.specs.Green.{Green, worldOf}
+use Rattle.board.specs.Open.{OpenWith}
 use Rattle.board.specs.Permitted.{heldIn}
 use Rattle.board.specs.View.{View}
 use Rattle.board.proofs.GoodLaws.{records→range}
@@ -30,6 +31,13 @@ module _ (v : View) (fits : ViewFits v) where
   -- two open duties with one serial are one
   pub one-duty : (d e : Duty) → Mem d (v .duties) → Mem e (v .duties) → d .serial .0 ≡ e .serial .0 → d ≡ e
   one-duty d e m n same = same-serial (worldOf v) (v .duties) (pool .distinct) m n same
+
+  -- what holds of the open duty with this serial holds of d, which has it
+  pub of-named :
+      (d : Duty) → Mem d (v .duties) → (serial : ℕ) → d .serial .0 ≡ serial → (Holds : Duty → Type 0)
+      → OpenWith v serial Holds → Holds d
+  of-named d m serial e Holds o =
+      subst Holds (one-duty (o .duty) d (o .open-duty) m (o .has-serial ∙ sym e)) (o .holds)
 
   -- the duty with d's serial is d
   pub finds : (d : Duty) → Mem d (v .duties) → find (named (d .serial .0)) (v .duties) ≡ some d

@@ -29,17 +29,19 @@ use Rattle.admit.specs.Admits.{afterAdmit, admitChecks}
 use Rattle.act.specs.ActsNow.{afterAct, actChecks}
 use Rattle.do_duty.specs.Does.{afterDo, doChecks}
 use Rattle.withdraw.specs.Withdraws.{afterWithdraw, withdrawChecks}
-use Rattle.promises.specs.Calls.{Call, openFile, admit, act, doDuty, withdraw, check, save, walk, Keeps}
-
-abbrev pub lent : Call → List ℕ
-lent (openFile before s) = before
-lent (admit before q) = before
-lent (act before q) = before
-lent (doDuty q) = []
-lent (withdraw before q) = before
-lent (check before) = before
-lent (save before) = before
-lent (walk before) = before
+use Rattle.promises.specs.Calls.{
+  Call,
+  openFile,
+  admit,
+  act,
+  doDuty,
+  withdraw,
+  check,
+  save,
+  walk,
+  Keeps,
+  refusedBoard,
+}
 
 abbrev pub checksOf : Board → Call → List Check
 checksOf b (openFile before s) = openChecks s (length before)
@@ -62,19 +64,8 @@ afterCall b (check before) = view b
 afterCall b (save before) = view b
 afterCall b (walk before) = view b
 
--- the board value that is left, if the call is refused
-abbrev pub refusedCall : Board → Call → Board
-refusedCall b (openFile before s) = smallestBoard
-refusedCall b (admit before q) = b
-refusedCall b (act before q) = b
-refusedCall b (doDuty q) = b
-refusedCall b (withdraw before q) = b
-refusedCall b (check before) = b
-refusedCall b (save before) = b
-refusedCall b (walk before) = b
-
 pub of-refused :
-    (P : Board → Type 0) (b : Board) (call : Call) → P smallestBoard → P b → P (refusedCall b call)
+    (P : Board → Type 0) (b : Board) (call : Call) → P smallestBoard → P b → P (refusedBoard b call)
 of-refused P b (openFile before s) small same = small
 of-refused P b (admit before q) small same = same
 of-refused P b (act before q) small same = same
@@ -121,7 +112,7 @@ module _
 pub kept :
     (b : Board) (call : Call) (r : Answer) (left : Board) (after : List ℕ) → Keeps b call r left after
     → (P : Board → Type 0) → (NoneApplies (checksOf b call) → P (boardSaying (afterCall b call)))
-    → P (refusedCall b call) → P left
+    → P (refusedBoard b call) → P left
 kept b (openFile before s) r left after k =
     either-way (openChecks s (length before)) smallestBoard (said s) 0 before after r left refl
     (open-called s before after (record { answer = r; board = left }) k)

@@ -1,7 +1,10 @@
 pub mod DidLaws
 pub mod Kept
+pub mod AsksLaws
 pub mod AfterCalls
+pub mod May
 pub mod StaysGreen
+pub mod Accepted
 pub mod CarriedOut
 pub mod NoneOver
 pub mod Denied

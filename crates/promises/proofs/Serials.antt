@@ -33,13 +33,14 @@ use Rattle.promises.specs.Calls.{
   save,
   walk,
   Keeps,
+  refusedBoard,
   Made,
   Calls,
 }
 use Rattle.promises.specs.Given.{given, allGiven, NeverTwice}
 use Rattle.promises.specs.GoodAndGreen.{Whole}
 use Rattle.promises.proofs.AfterCalls.{after-fits}
-use Rattle.promises.proofs.Kept.{checksOf, afterCall, refusedCall, kept, done→none}
+use Rattle.promises.proofs.Kept.{checksOf, afterCall, kept, done→none}
 use Rattle.promises.proofs.StaysGreen.{step-whole, opened-green}
 
 -- These serials rise, and none is below this number.
@@ -75,7 +76,7 @@ module _ (b : Board) (w : Whole b) where
   -- the next serial does not fall, where the promise names none that is lower
   rises :
       (call : Call) (r : Answer) (left : Board) (after : List ℕ) → Keeps b call r left after
-      → b .next .0 ≤ afterCall b call .next → b .next .0 ≤ refusedCall b call .next .0
+      → b .next .0 ≤ afterCall b call .next → b .next .0 ≤ refusedBoard b call .next .0
       → b .next .0 ≤ left .next .0
   rises call r left after k accepted refused =
       kept b call r left after k (λ (c : Board). b .next .0 ≤ c .next .0)

@@ -28,9 +28,21 @@ use Rattle.admit.specs.Admits.{afterAdmit, admitChecks}
 use Rattle.act.specs.ActsNow.{afterAct, actChecks}
 use Rattle.do_duty.specs.Does.{afterDo, doChecks}
 use Rattle.withdraw.specs.Withdraws.{afterWithdraw, withdrawChecks}
-use Rattle.promises.specs.Calls.{Call, openFile, admit, act, doDuty, withdraw, check, save, walk, Keeps}
+use Rattle.promises.specs.Calls.{
+  Call,
+  openFile,
+  admit,
+  act,
+  doDuty,
+  withdraw,
+  check,
+  save,
+  walk,
+  Keeps,
+  lent,
+}
 use Rattle.promises.specs.Settled.{Settled}
-use Rattle.promises.proofs.Kept.{lent, open-called}
+use Rattle.promises.proofs.Kept.{open-called}
 
 -- ---- the lent list
 

@@ -17,7 +17,7 @@ use Rattle.open.specs.declared.Opened.{Opened}
 use Rattle.open.specs.Opens.{Opens}
 use Rattle.promises.specs.Calls.{Call, openFile, Keeps, Made, Calls}
 use Rattle.promises.specs.GoodAndGreen.{Whole, GoodAndGreen}
-use Rattle.promises.proofs.Kept.{afterCall, refusedCall, of-refused, kept}
+use Rattle.promises.proofs.Kept.{afterCall, of-refused, kept}
 use Rattle.promises.proofs.AfterCalls.{after-fits, after-green}
 
 -- the smallest board is good and, since it has no duty, green

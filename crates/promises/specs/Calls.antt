@@ -5,6 +5,7 @@ use mathlib.Core.List.{List, [], _∷_}
 use Prim.Native.Nat.{ℕ}
 use Rattle.board.specs.declared.Answer.{Answer}
 use Rattle.board.specs.declared.Board.{Board}
+use Rattle.board.specs.Filler.{smallestBoard}
 use Rattle.requests.specs.declared.RequestAct.{RequestAct}
 use Rattle.requests.specs.declared.RequestAdmit.{RequestAdmit}
 use Rattle.requests.specs.declared.RequestDo.{RequestDo}
@@ -40,6 +41,28 @@ Keeps b (withdraw before q) r left after = Withdraws b before q r left after
 Keeps b (check before) r left after = Checked b before after r × (left ≡ b)
 Keeps b (save before) r left after = Saves b before after r × (left ≡ b)
 Keeps b (walk before) r left after = Walks b before after r × (left ≡ b)
+
+-- the list or buffer that is lent to the call; none is to do
+abbrev pub lent : Call → List ℕ
+lent (openFile before s) = before
+lent (admit before q) = before
+lent (act before q) = before
+lent (doDuty q) = []
+lent (withdraw before q) = before
+lent (check before) = before
+lent (save before) = before
+lent (walk before) = before
+
+-- the board value that a refused call leaves: the one that it was given, untouched; an open, the smallest
+abbrev pub refusedBoard : Board → Call → Board
+refusedBoard b (openFile before s) = smallestBoard
+refusedBoard b (admit before q) = b
+refusedBoard b (act before q) = b
+refusedBoard b (doDuty q) = b
+refusedBoard b (withdraw before q) = b
+refusedBoard b (check before) = b
+refusedBoard b (save before) = b
+refusedBoard b (walk before) = b
 
 -- a call that was made, with its answer and the lent list or buffer after it
 pub record Made : Type 0 where

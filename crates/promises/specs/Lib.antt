@@ -1,6 +1,8 @@
 pub mod GoodAndGreen
 pub mod Judged
 pub mod Calls
+pub mod May
+pub mod Accepted
 pub mod InTurn
 pub mod Given
 pub mod Settled
