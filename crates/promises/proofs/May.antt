@@ -156,9 +156,8 @@ module _ (b : Board) (size : Sized b) (q : RequestDo) where
         to-end =
             omega (arith, leb-true (q .clock) (d .end) (and-right (leb (d .start) (q .clock)) _ in-window));
         none-before = λ other n h.
-            held-back
-            (named-d _
-            (record { other = other; open-other = n; before = lt-ltb (other .end) (d .start) (omega (arith, h)) }));
+            let before = lt-ltb (other .end) (d .start) (omega (arith, h)) in
+            held-back (named-d _ (record { other = other; open-other = n; before = before }));
         permitted = says-permitted b is-good (d .doer) (d .what) (λ f. not-permitted (named-d _ f));
       }
     where
@@ -240,7 +239,7 @@ module _ (b : Board) (room : ℕ) (q : RequestWithdraw) where
 -- ---- so the answer is 0 or 8 exactly then
 
 -- a number that is done's or red's is no earlier check's
-past-earlier :
+pub past-earlier :
     (cs : List Check) (red : Type 0) (n : ℕ) → Lacks answer.done cs → Lacks answer.red cs
     → Answers (cs ++ (check answer.red red ∷ [])) n → (n ≡ answer.done) ⊎ (n ≡ answer.red) → NoneApplies cs
 past-earlier [] red n k l a e = tt
