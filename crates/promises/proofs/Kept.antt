@@ -64,6 +64,7 @@ afterCall b (check before) = view b
 afterCall b (save before) = view b
 afterCall b (walk before) = view b
 
+-- what holds of the smallest board and of the one given holds of what a refused call leaves
 pub of-refused :
     (P : Board → Type 0) (b : Board) (call : Call) → P smallestBoard → P b → P (refusedBoard b call)
 of-refused P b (openFile before s) small same = small

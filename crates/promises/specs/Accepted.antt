@@ -108,7 +108,7 @@ pub record ActAccepted
     pub serial : r .serial .0 ≡ 0
     pub list : (after ≡ before) × (r .length ≡ 0)
 
--- do lends no list and has no 8: that the board stays green is proved elsewhere (`stays-green`)
+-- no list is lent to do, and it has no 8: that a green board stays green is proved (`stays-green`)
 pub record DoAccepted (b : Board) (q : RequestDo) (r : Answer) (left : Board) : Type 0 where
   pub duty : Duty
   pub may : MayDo b q duty

@@ -12,8 +12,8 @@ use Rattle.board.specs.Numbers as answer
 use Rattle.board.specs.View.{view}
 use Rattle.promises.specs.Calls.{Call, openFile, admit, act, doDuty, withdraw, check, save, walk, Made}
 
--- the serials given on one live board from this call on, where the calls after it give these: its own, if it
--- is an accepted admission, and then those; after an open there is another live board
+-- the serials that are given on one live board from this call on; `later` are those from the next call on. An
+-- accepted admission gives its own; after an open the live board is another.
 abbrev pub given : Call → Answer → List ℕ → List ℕ
 given (openFile before s) r later = []
 given (admit before q) r later = cond (eqb (r .number) answer.done) (r .serial .0 ∷ later) later
