@@ -39,7 +39,7 @@ module _ (s : List ℕ) (left : Board) (c : Leaves s left) where
   pub leaves-green : GoodAndGreen left
   leaves-green =
       let made = played-calls (recordsOf s) (c .opened .board) left (c .calls) (c .played) in
-      opened-stays-green (fileBytes s) (c .list) (c .list′) (c .opened) (c .opens) (c .accepted) (made .0)
+      opened-stays-green (fileBytes s) (c .list) (c .list′) (c .opened) (c .opens) (made .0)
       left (made .2)
 
   module _
