@@ -1,4 +1,6 @@
 // Act now on the live board, by value.
+#![tactic(auto)]
+
 ghost use Rattle.board.specs.Answers.{Answers};
 ghost use Rattle.outcomes.specs.Outcomes.{Flagged};
 ghost use Rattle.act.specs.ActsNow.{act_earlier, ActsNow};

@@ -1,4 +1,6 @@
 // Admit a duty to the live board, by value.
+#![tactic(auto)]
+
 ghost use Rattle.std.specs.Prelude.{◌≡◌, true, [], ◌∷◌, ◌<◌, length};
 ghost use Rattle.board.specs.After.{with_serial, admitted};
 ghost use Rattle.board.specs.Answers.{Answers};

@@ -9,7 +9,7 @@ use mathlib.Core.List.{List, [], ◌∷◌, ◌++◌}
 use Prim.Native.Nat.{ℕ, suc, ◌+◌, ◌≤◌, ◌<◌, ◌^◌}
 use native.Mathlib.Omega.{arith}
 use lib.ListN.{length, length-append}
-use borrow.Author.Tests.{ltb-true, lt_ltb}
+use borrow.Author.Tests.{ltb-true, lt-ltb}
 use Rattle.orders.specs.Lists.{Mem, here, there, all, keep, Pairwise}
 use Rattle.orders.proofs.Lists.{all_in, all_mem, keep_mem, mid, find_case, pairwise_keep, pairwise_append}
 use Rattle.board.specs.declared.Duty.{Duty}
@@ -113,7 +113,7 @@ module _ (v : View) (fits : ViewFits v) (clock : ℕ) where
   sets : all (set_fits v.roles) v.holdings ≡ true
   sets =
       all_in (set_fits v.roles) v.holdings
-      (λ set m. lt_ltb set (2 ^ v.roles) (in_range.holdings set m))
+      (λ set m. lt-ltb set (2 ^ v.roles) (in_range.holdings set m))
 
   still_fits :
       (next : ℕ) (holdings : List ℕ) (duties : List Duty) → 1 ≤ next → next ≤ max_next

@@ -1,5 +1,7 @@
 // The board after an act, after a duty is taken out, and after a duty is done: nothing else changes. Each is
 // made at once, field by field: a board that is first copied and then changed is copied twice.
+#![tactic(auto)]
+
 ghost use Rattle.std.specs.Prelude.{◌≡◌};
 ghost use Rattle.after.specs.Boards.{acted_board, withdrawn_board, did_board};
 

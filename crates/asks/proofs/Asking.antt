@@ -6,7 +6,7 @@ use mathlib.Core.Option.{Option, none, some}
 use mathlib.Core.List.{List, [], ◌∷◌}
 use Prim.Native.Nat.{ℕ, ◌+◌, ◌≤◌, ◌<◌, min}
 use native.Mathlib.Omega.{arith}
-use lib.ListN.{length, get_or, set, replicate, length_set, length-replicate}
+use lib.ListN.{length, get_or, set, replicate, length-set, length-replicate}
 use Rattle.orders.specs.Lists.{find}
 use Rattle.board.specs.declared.Board.{Board}
 use Rattle.board.specs.declared.Duty.{Duty}
@@ -127,7 +127,7 @@ module _ {b : Board} {duties : List Duty} {n : ℕ} where
         record {
           room = room;
           so_far = omega arith;
-          long = length_set out i ask ∙ known.long;
+          long = length-set out i ask ∙ known.long;
           are = λ g. one_more out i no_ask (rw known.long (omega arith)) (known.are g) (e g);
         }
 

@@ -5,9 +5,9 @@ use mathlib.Core.List.{List}
 use Prim.Native.Nat.{ℕ, ◌+◌, ◌≤◌, ◌<◌}
 use native.Mathlib.Omega.{arith}
 use lib.Dec.{eqb}
-use lib.ListN.{length, get_or, set, replicate, length_set, length-replicate}
+use lib.ListN.{length, get_or, set, replicate, length-set, length-replicate}
 use lib.Seq.{get_or-set_same, get_or-set_other}
-use borrow.Author.Tests.{eqb-true, eqb_false}
+use borrow.Author.Tests.{eqb-true, eqb-false}
 use Rattle.orders.proofs.Tests.{by_test}
 use Rattle.asks.specs.Keys.{Keys}
 
@@ -20,7 +20,7 @@ one_more out i {x} d h are e j k =
     by_test
     (eqb j i)
     (λ t. let s = eqb-true j i t in rw s (get_or-set_same out i x d h ∙ e))
-    (λ f. get_or-set_other out i j x d (eqb_false j i f) ∙ are j (omega (arith, eqb_false j i f)))
+    (λ f. get_or-set_other out i j x d (eqb-false j i f) ∙ are j (omega (arith, eqb-false j i f)))
 
 module _ {A : Type 0} {key : A → ℕ} {records : List A} {filler : A} {room : ℕ} where
   pub keys_start : Keys key records filler room 0 (replicate room 0)
@@ -31,7 +31,7 @@ module _ {A : Type 0} {key : A → ℕ} {records : List A} {filler : A} {room : 
       → x ≡ key (get_or records i filler) → Keys key records filler room (i + 1) (set out i x)
   keys_next {i} {x} {out} known h e =
       record {
-        long = length_set out i x ∙ known.long;
+        long = length-set out i x ∙ known.long;
         are = one_more out i 0 (rw known.long h) known.are e;
       }
 

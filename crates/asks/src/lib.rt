@@ -1,5 +1,7 @@
 // What every open duty asks, looked up once for all of them: a search by halving finds the permission or rule
 // of each, since both rise on a good board.
+#![tactic(auto)]
+
 ghost use Rattle.std.specs.Prelude.{◌≡◌, true, [], ◌∷◌, ◌≤◌, min, length};
 ghost use Rattle.orders.specs.Lists.{find};
 ghost use Rattle.board.specs.Filler.{no_permission, no_rule};

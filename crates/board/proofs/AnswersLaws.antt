@@ -6,7 +6,7 @@ use mathlib.Core.Bool.{Bool, true, not, ◌&&◌}
 use mathlib.Core.List.{List, [], ◌∷◌, ◌++◌}
 use Prim.Native.Nat.{ℕ}
 use lib.Dec.{eqb}
-use borrow.Author.Tests.{eqb_false}
+use borrow.Author.Tests.{eqb-false}
 use Rattle.orders.proofs.Tests.{not_true, and_left, and_right}
 use Rattle.board.specs.Answers.{Check, Answers, NoneApplies}
 use Rattle.board.specs.Numbers as answer
@@ -34,7 +34,7 @@ Refusing cs = Lacks answer.done cs
 
 module _ (k : ℕ) (c : Check) (cs : List Check) (l : Lacks k (c ∷ cs)) where
   first_lacks : c.number ≡ k → ⊥
-  first_lacks = eqb_false c.number k (not_true (eqb c.number k) (and_left _ (lacks k cs) l))
+  first_lacks = eqb-false c.number k (not_true (eqb c.number k) (and_left _ (lacks k cs) l))
 
   rest_lacks : Lacks k cs
   rest_lacks = and_right (not (eqb c.number k)) (lacks k cs) l

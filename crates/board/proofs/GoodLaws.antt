@@ -3,7 +3,7 @@
 use mathlib.Core.Path.{◌≡◌}
 use mathlib.Core.Bool.{Bool, true, ◌&&◌}
 use Prim.Native.Nat.{ℕ, ◌<◌, ◌^◌}
-use borrow.Author.Tests.{ltb-true, lt_ltb}
+use borrow.Author.Tests.{ltb-true, lt-ltb}
 use Rattle.orders.specs.Lists.{Mem}
 use Rattle.orders.proofs.Tests.{and_left, and_right, and_both}
 use Rattle.orders.proofs.Lists.{all_mem, all_in}
@@ -69,7 +69,7 @@ pub range→records : (v : View) → RecordsInRange v → records_fit v ≡ true
 range→records v r = search (and_both, hs, ps, rs, ds)
   where
     hs : holdings_fit v ≡ true
-    hs = all_in (set_fits v.roles) v.holdings (λ set m. lt_ltb set (2 ^ v.roles) (r.holdings set m))
+    hs = all_in (set_fits v.roles) v.holdings (λ set m. lt-ltb set (2 ^ v.roles) (r.holdings set m))
 
     ps : permissions_fit v ≡ true
     ps =
@@ -84,7 +84,7 @@ range→records v r = search (and_both, hs, ps, rs, ds)
     ds : duties_fit v ≡ true
     ds =
         part→fits (duty_right v) duty_below v.duties
-        (range→duty v.users v.roles v.next) (λ d e. lt_ltb d.serial.0 e.serial.0) r.duties
+        (range→duty v.users v.roles v.next) (λ d e. lt-ltb d.serial.0 e.serial.0) r.duties
 
 -- ---- the whole
 

@@ -3,7 +3,7 @@
 use mathlib.Core.Path.{◌≡◌}
 use mathlib.Core.Bool.{true, ◌&&◌}
 use Prim.Native.Nat.{ℕ, ◌≤◌, ◌<◌, ◌^◌}
-use borrow.Author.Tests.{ltb-true, leb-true, lt_ltb, le-leb}
+use borrow.Author.Tests.{ltb-true, leb-true, lt-ltb, le-leb}
 use Rattle.orders.proofs.Tests.{and_left, and_right, and_both}
 use Rattle.board.specs.declared.Counts.{Counts}
 use Rattle.board.specs.declared.Duty.{Duty}
@@ -68,18 +68,18 @@ module _ (roles : ℕ) (p : Permission) where
   permission→range e = search (and_left, and_right, leb-true, ltb-true)
 
   pub range→permission : PermissionInRange roles p → permission_fits roles p ≡ true
-  range→permission h = search (and_both, le-leb, lt_ltb)
+  range→permission h = search (and_both, le-leb, lt-ltb)
 
 module _ (roles : ℕ) (r : Rule) where
   pub rule→range : rule_fits roles r ≡ true → RuleInRange roles r
   rule→range e = search (and_left, and_right, ltb-true)
 
   pub range→rule : RuleInRange roles r → rule_fits roles r ≡ true
-  range→rule h = search (and_both, lt_ltb)
+  range→rule h = search (and_both, lt-ltb)
 
 module _ (users roles next : ℕ) (d : Duty) where
   pub duty→range : duty_fits users roles next d && window_fits d ≡ true → DutyInRange users roles next d
   duty→range e = search (and_left, and_right, ltb-true, leb-true)
 
   pub range→duty : DutyInRange users roles next d → duty_fits users roles next d && window_fits d ≡ true
-  range→duty r = search (and_both, lt_ltb, le-leb)
+  range→duty r = search (and_both, lt-ltb, le-leb)

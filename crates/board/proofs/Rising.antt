@@ -7,7 +7,7 @@ use mathlib.Core.List.{List, [], ◌∷◌}
 use Prim.Native.Nat.{ℕ, ◌<◌}
 use native.Mathlib.Omega.{arith}
 use lib.Dec.{eqb, ltb}
-use borrow.Author.Tests.{ltb-true, eqb-true, lt_ltb, eq-eqb}
+use borrow.Author.Tests.{ltb-true, eqb-true, lt-ltb, eq-eqb}
 use Rattle.orders.specs.Lists.{Mem, here, all, Pairwise}
 use Rattle.orders.proofs.Tests.{and_left, and_right, and_both, or_true, or_left, or_right}
 use Rattle.orders.proofs.Lists.{all_mem, all_in, at_cons, pairwise_map}
@@ -25,8 +25,8 @@ pair→order a b c d e =
 order→pair : (a b c d : ℕ) → (a < c) ⊎ ((a ≡ c) × (b < d)) → pair_below a b c d ≡ true
 order→pair a b c d h =
     ⊎_elim
-    (λ k. or_left (ltb a c) (eqb a c && ltb b d) (lt_ltb a c k))
-    (λ k. or_right (ltb a c) (eqb a c && ltb b d) (search (and_both, eq-eqb, lt_ltb)))
+    (λ k. or_left (ltb a c) (eqb a c && ltb b d) (lt-ltb a c k))
+    (λ k. or_right (ltb a c) (eqb a c && ltb b d) (search (and_both, eq-eqb, lt-ltb)))
     h
 
 pub pair_trans :
@@ -39,7 +39,7 @@ pair_trans a b c d e f p q =
     (pair→order a b c d p))
 
 pub ltb_trans : (a b c : ℕ) → ltb a b ≡ true → ltb b c ≡ true → ltb a c ≡ true
-ltb_trans a b c p q = lt_ltb a c (omega (arith, ltb-true))
+ltb_trans a b c p q = lt-ltb a c (omega (arith, ltb-true))
 
 -- two pairs of which one is below the other differ
 pub pair_differs : (a b c d : ℕ) → pair_below a b c d ≡ true → a ≡ c → b ≡ d → ⊥

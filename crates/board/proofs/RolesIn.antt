@@ -12,7 +12,7 @@ use Prim.Native.Nat.{ℕ, zero, suc, ◌<◌}
 use native.Mathlib.Nat.{not-suc-le-zero}
 use native.Mathlib.Omega.{arith}
 use lib.Dec.{eqb}
-use borrow.Author.Tests.{eqb-true, eqb_false}
+use borrow.Author.Tests.{eqb-true, eqb-false}
 use Rattle.orders.specs.Lists.{Mem, here}
 use Rattle.orders.proofs.Tests.{by_test}
 use Rattle.orders.proofs.Lists.{keep_mem, keep_in}
@@ -26,7 +26,7 @@ below_mem (suc n) q h =
     by_test
     (eqb q n)
     (λ e. Memᴰ.append_right (below n) (here (eqb-true q n e)))
-    (λ f. let k = eqb_false q n f in Memᴰ.append_left (n ∷ []) (below_mem n q (omega arith)))
+    (λ f. let k = eqb-false q n f in Memᴰ.append_left (n ∷ []) (below_mem n q (omega arith)))
 
 pub mem_below : (n q : ℕ) → Mem q (below n) → q < n
 mem_below zero q m = elim m [ ]

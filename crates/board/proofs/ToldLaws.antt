@@ -7,7 +7,7 @@ use mathlib.Core.List.{List, ◌++◌}
 use Prim.Native.Nat.{ℕ}
 use lib.Dec.{eqb}
 use lib.ListN.{length, drop}
-use borrow.Author.Tests.{eqb-true, eqb_false}
+use borrow.Author.Tests.{eqb-true, eqb-false}
 use Rattle.orders.proofs.Tests.{by_test}
 use Rattle.board.specs.declared.Answer.{Answer}
 use Rattle.board.specs.Answers.{plain_answer}
@@ -44,7 +44,7 @@ module _
         by_test
         (eqb r.number answer.red)
         (λ e. red (eqb-true r.number answer.red e))
-        (λ e. otherwise (eqb_false r.number answer.red e))
+        (λ e. otherwise (eqb-false r.number answer.red e))
 
     pub same_told : (r ≡ r') × (after ≡ after')
     same_told = (

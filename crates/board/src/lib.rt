@@ -1,5 +1,7 @@
 // The board: who holds which role, permissions, rules and duties, its limits, its filler and the smallest
 // board; what a call answers; and how many of a count stand in the room that there is.
+#![tactic(auto)]
+
 ghost use Rattle.std.specs.Prelude.{◌≡◌, min};
 ghost use Rattle.board.specs.Answers.{plain_answer, done_answer, written_answer, red_answer};
 ghost use Rattle.board.specs.Filler.{no_permission, no_rule, no_duty, smallest_board};

@@ -1,6 +1,8 @@
 // Reads a board file and calls from standard input, opens the board, makes the calls one after the other on
 // the live board, and writes the board file after them to standard output. What cannot be opened, a red board
 // and a board that breaks the file rules give a line on standard error alone. docs/REPLAY.md has the format.
+#![tactic(auto)]
+
 ghost use Rattle.std.specs.Prelude.{◌≤◌, length};
 
 use board::{Answer, Board};

@@ -1,6 +1,8 @@
 // Document 01's small boards, run and compared: 1 to 11 as files that are opened, 12 to 14 call by call;
 // all by value and then through the lent layer. A line for each with what was told, and a last line with
 // the number of differences from document 01.
+#![tactic(auto)]
+
 mod boards;
 mod by_value;
 mod bytes;

@@ -10,7 +10,7 @@ use native.Mathlib.Decide.{dec_lt}
 use native.Mathlib.Numerals.{add-one}
 use native.Mathlib.Omega.{arith}
 use lib.Dec.{eqb}
-use borrow.Author.Tests.{eqb-true, eqb_false}
+use borrow.Author.Tests.{eqb-true, eqb-false}
 use Rattle.orders.proofs.Tests.{by_test}
 use Rattle.board.specs.Answers.{check, Answers}
 use Rattle.board.specs.Good as g
@@ -130,7 +130,7 @@ one_answers [] fault t = eqb-true fault answer.done t
 one_answers (number ∷ rest) fault t =
     by_test (eqb fault number)
     (λ is. let e = eqb-true fault number is in inl (e, e))
-    (λ other. inr (eqb_false fault number other, one_answers rest fault (rw other at t)))
+    (λ other. inr (eqb-false fault number other, one_answers rest fault (rw other at t)))
 
 abbrev Known : ℕ → Type 0
 Known fault = is_one_of fault_numbers fault ≡ true

@@ -3,7 +3,7 @@ use mathlib.Core.Path.{◌≡◌, sym, ◌∙◌}
 use mathlib.Core.List.{List}
 use Prim.Native.Nat.{ℕ}
 use lib.Dec.{eqb}
-use borrow.Author.Tests.{eqb-true, eqb_false}
+use borrow.Author.Tests.{eqb-true, eqb-false}
 use Rattle.orders.proofs.Tests.{by_test}
 use Rattle.board.specs.Numbers as answer
 use Rattle.board.proofs.AnswersLaws.{same_answer}
@@ -20,7 +20,7 @@ module _ (s : List ℕ) (a b : Reading) (p : Reads s a) (q : Reads s b) where
       (eqb a.number answer.done)
       (λ t. let e = eqb-true a.number answer.done t in p.accepted e ∙ sym (q.accepted (sym number ∙ e)))
       (λ t.
-      let n = eqb_false a.number answer.done t in
+      let n = eqb-false a.number answer.done t in
       p.refused n ∙ sym (q.refused (λ e. n (number ∙ e))))
 
   pub same_reading : a ≡ b

@@ -1,4 +1,6 @@
 // Reading a board file: its checks in document 01's order, and the board that it says.
+#![tactic(auto)]
+
 mod bytes;
 mod faults;
 mod fields;

@@ -6,7 +6,7 @@ use mathlib.Core.List.{List, [], ◌∷◌}
 use Prim.Native.Nat.{ℕ}
 use lib.Dec.{eqb}
 use lib.ListN.{length}
-use borrow.Author.Tests.{eqb-true, eqb_false}
+use borrow.Author.Tests.{eqb-true, eqb-false}
 use Rattle.orders.proofs.Tests.{by_test}
 use Rattle.board.specs.declared.Answer.{Answer}
 use Rattle.board.specs.declared.Board.{Board}
@@ -48,7 +48,7 @@ module _
         let e = eqb-true r.number answer.done t in
         (p.accepted e).0 ∙ sym (q.accepted (sym same_number ∙ e)).0)
         (λ f.
-        let d = eqb_false r.number answer.done f in
+        let d = eqb-false r.number answer.done f in
         (p.refused d).0 ∙ sym (q.refused (λ e. d (same_number ∙ e))).0)
 
 module _
@@ -90,7 +90,7 @@ turned_settled b r left left' p q =
     by_test
     (eqb r.kind 9)
     (λ t. let e = eqb-true r.kind 9 t in p.poked e ∙ sym (q.poked e))
-    (λ f. let d = eqb_false r.kind 9 f in called (p.called d) (q.called d))
+    (λ f. let d = eqb-false r.kind 9 f in called (p.called d) (q.called d))
   where
     called : LeftByCall b r left → LeftByCall b r left' → left ≡ left'
     called m n =

@@ -1,5 +1,7 @@
 // Where everything stands in a board file: the numbers in its header, then holdings, permissions, rules and
 // duties with no gaps. Every size and place is stated here alone.
+#![tactic(auto)]
+
 ghost use Rattle.std.specs.Prelude.{◌≡◌};
 ghost use Rattle.layout.specs.Layout.{permissions_from, rules_from, duties_from, total_of};
 

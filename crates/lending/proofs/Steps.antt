@@ -17,7 +17,7 @@ use seplogic.Ra.Ura.{Ura}
 use seplogic.Ra.TreeShare.{full_share}
 use base.Fml.{Lft, Share, fat, froom, fdies, flft, fobs, fauth, fbor, fobor}
 use base.Logic.{SProp, ent, sep, emp, id⊢, via, comm∗, assoc∗, assoc', mono_l, mono_r, emp∗}
-use borrow.Author.Tests.{eqb_false}
+use borrow.Author.Tests.{eqb-false}
 use denote.Laws.{Is, shows}
 use denote.Memory.{mem, cell_at, pointee}
 use denote.Ref.{MutBor}
@@ -113,7 +113,7 @@ is_false false _ = refl
 is_false true z = absurd z
 
 pub not_done : (r : Outcome) → Flagged r → Holds (not r.accepted) → r.answer.number ≡ answer.done → ⊥
-not_done r f off = eqb_false r.answer.number answer.done (sym f.says ∙ is_false r.accepted off)
+not_done r f off = eqb-false r.answer.number answer.done (sym f.says ∙ is_false r.accepted off)
 
 -- ---- a lent board on top of a context
 

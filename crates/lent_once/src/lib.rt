@@ -1,5 +1,7 @@
 // The lent calls run on a board by value: the board goes into a local, which is lent to the call, and what
 // the call left in it is given back. So a program runs the lent calls without lending a board itself.
+#![tactic(auto)]
+
 ghost use Rattle.act.specs.ActsNow.{ActsNow};
 ghost use Rattle.admit.specs.Admits.{Admits};
 ghost use Rattle.open.specs.Opens.{Opens};

@@ -10,7 +10,7 @@ use native.Mathlib.Nat.{pow-suc}
 use native.Mathlib.Decide.{dec_lt}
 use native.Mathlib.Omega.{arith}
 use lib.ListN.{get_or}
-use borrow.Author.Tests.{lt_ltb, le-ltb}
+use borrow.Author.Tests.{lt-ltb, le-ltb}
 use Rattle.line.specs.Line.{digits, max_digits, decimal}
 
 -- digits read from the first to the last, after a number that was read before them
@@ -54,7 +54,7 @@ longer : (k n : ℕ) → Decimal (n / 10) (digits k (n / 10)) → Decimal n (dig
 longer k n p = elim (dec_lt n 10) [ yes h ↦ few h | no h ↦ many (omega arith) ]
   where
     few : n < 10 → Decimal n (digits (suc k) n)
-    few h = rw (lt_ltb n 10 h) (one_digit n h)
+    few h = rw (lt-ltb n 10 h) (one_digit n h)
 
     many : 10 ≤ n → Decimal n (digits (suc k) n)
     many h = rw (le-ltb n 10 h) (more_digits n (digits k (n / 10)) h p)

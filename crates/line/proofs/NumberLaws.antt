@@ -11,7 +11,7 @@ use native.Mathlib.Omega.{arith}
 use lib.Dec.{ltb}
 use lib.ListN.{length, take, drop, get_or, set, length-append, length-take, drop_of_length-le}
 use lib.Seq.{take-suc, take_all, take-length}
-use borrow.Author.Tests.{lt_ltb, le-ltb}
+use borrow.Author.Tests.{lt-ltb, le-ltb}
 use Rattle.line.specs.Line.{digits, max_digits, decimal, max_number, numbers}
 
 -- ---- lengths
@@ -81,7 +81,7 @@ module _ (text : List ℕ) (rest : ℕ) where
   only_digit (suc at) a f h =
       let e : suc at - 1 ≡ at = omega arith in
       let i : at < length text = omega arith in
-      let m : rest % 10 ≡ rest = omega arith in rw (e, set_first, lt_ltb rest 10 h, m)
+      let m : rest % 10 ≡ rest = omega arith in rw (e, set_first, lt-ltb rest 10 h, m)
 
   pub one_digit_more : (at : ℕ) → 1 ≤ at → at ≤ length text → 10 ≤ rest
       → digits (at - 1) (rest / 10) ++ drop (at - 1) (set text (at - 1) (48 + rest % 10))

@@ -7,7 +7,7 @@ use Prim.Native.Nat.{ℕ, min}
 use native.Mathlib.Omega.{arith}
 use lib.Dec.{eqb}
 use lib.ListN.{length, take, get_or}
-use borrow.Author.Tests.{eqb-true, eqb_false, eq-eqb, ne_eqb}
+use borrow.Author.Tests.{eqb-true, eqb-false, eq-eqb, ne_eqb}
 use Rattle.orders.proofs.Tests.{by_test}
 use Rattle.board.specs.declared.Answer.{Answer}
 use Rattle.board.specs.Limits.{max_duties}
@@ -58,12 +58,12 @@ module _ (r : Answer) (duties : ℕ) (list : List ℕ) where
       (eqb r.number answer.done)
       (λ t. let e = eqb-true r.number answer.done t in inl (ap first (done_line e), e))
       (λ f.
-      let d = eqb_false r.number answer.done f in
+      let d = eqb-false r.number answer.done f in
       by_test
       (eqb r.number answer.red)
       (λ t. let e = eqb-true r.number answer.red t in inr (inl (ap first (red_line e), e)))
       (λ g.
-      let o = eqb_false r.number answer.red g in inr (inr (ap first (refused_line d o), (d, o)))))
+      let o = eqb-false r.number answer.red g in inr (inr (ap first (refused_line d o), (d, o)))))
 
   begins_yes : Begins yes (line_of r duties list) → r.number ≡ answer.done
   begins_yes b =

@@ -1,4 +1,6 @@
 // The line that the program prints for an answer: a word and numbers with single spaces, and a newline.
+#![tactic(auto)]
+
 ghost use Rattle.std.specs.Prelude.{◌≡◌, [], ◌∷◌, ◌++◌, ◌+◌, ◌-◌, ◌*◌, ◌%◌, ◌≤◌, min, length, take, drop};
 ghost use Rattle.board.specs.Limits.{max_duties};
 ghost use Rattle.put.specs.Put.{Put};

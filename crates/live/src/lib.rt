@@ -1,5 +1,7 @@
 // The calls on the live board, which is lent to them: each leaves its outcome there. A thin layer over the
 // calls by value, with their promises.
+#![tactic(auto)]
+
 ghost use Rattle.act.specs.ActsNow.{ActsNow};
 ghost use Rattle.admit.specs.Admits.{Admits};
 ghost use Rattle.do_duty.specs.Does.{Does};

@@ -5,7 +5,7 @@ use mathlib.Core.List.{List}
 use Prim.Native.Nat.{ℕ}
 use lib.Dec.{eqb}
 use lib.ListN.{length}
-use borrow.Author.Tests.{eqb-true, eqb_false}
+use borrow.Author.Tests.{eqb-true, eqb-false}
 use Rattle.orders.proofs.Tests.{by_test}
 use Rattle.board.specs.Numbers as answer
 use Rattle.board.specs.Told.{OneOrder}
@@ -31,7 +31,7 @@ module _
         let e = eqb-true r.answer.number answer.done t in
         p.accepted e ∙ sym (q.accepted (sym same_number ∙ e)))
         (λ f.
-        let d = eqb_false r.answer.number answer.done f in
+        let d = eqb-false r.answer.number answer.done f in
         p.refused d ∙ sym (q.refused (λ e. d (same_number ∙ e))))
 
     pub same_opening : OneOrder p.told q.told → (r.answer ≡ r'.answer) × (after ≡ after')

@@ -9,7 +9,7 @@ use Prim.Native.Nat.{ℕ, ◌≤◌}
 use native.Mathlib.Omega.{arith}
 use lib.Dec.{eqb}
 use lib.ListN.{length}
-use borrow.Author.Tests.{eqb_false}
+use borrow.Author.Tests.{eqb-false}
 use Rattle.orders.proofs.Tests.{not_true, and_left, and_right}
 use Rattle.board.specs.Answers.{Check, Answers, NoneApplies}
 use Rattle.board.specs.Good.{good}
@@ -42,7 +42,7 @@ past_lacking :
     (k : ℕ) (cs ds : List Check) → Lacks k cs → Answers (cs ++ ds) k → NoneApplies cs × Answers ds k
 past_lacking k [] ds l a = (tt, a)
 past_lacking k (c ∷ cs) ds l (inl a) =
-    absurd (eqb_false c.number k (not_true _ (and_left _ (lacks k cs) l)) (sym a.1))
+    absurd (eqb-false c.number k (not_true _ (and_left _ (lacks k cs) l)) (sym a.1))
 past_lacking k (c ∷ cs) ds l (inr a) =
     let lacking = and_right (not (eqb c.number k)) (lacks k cs) l in
     let rest = past_lacking k cs ds lacking a.1 in ((a.0, rest.0), rest.1)

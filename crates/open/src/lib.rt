@@ -1,4 +1,6 @@
 // Opening a board file, by value.
+#![tactic(auto)]
+
 ghost use Rattle.std.specs.Prelude.{◌≡◌};
 ghost use Rattle.open.specs.Opens.{Opens, refused_open};
 

@@ -41,6 +41,7 @@ module _ (W : World) where
   pub same_serial :
       (pool : List Duty) → Distinct W pool → {x y : Duty} → Mem x pool → Mem y pool → serial x ≡ serial y
       → x ≡ y
+  same_serial [] h {x = x} {y = y} x6 _ e = elim x6 [ ]
   same_serial (z ∷ l) h (here p) (here q) e = p ∙ sym q
   same_serial (z ∷ l) h {y = y} (here p) (there n) e = absurd (h.0 y n (sym (ap serial p) ∙ e))
   same_serial (z ∷ l) h {x} (there m) (here q) e = absurd (h.0 x m (sym (ap serial q) ∙ sym e))
@@ -84,9 +85,11 @@ module _ (W : World) where
       go f false (there (there n)) = there (f (there n))
 
   pub sort_mem : (l : List Duty) {z : Duty} → Mem z (sort l) → Mem z l
+  sort_mem [] {z = z} m = elim m [ ]
   sort_mem (x ∷ l) m = under (sort_mem l) (insert_mem x (sort l) m)
 
   pub sort_in : (l : List Duty) {z : Duty} → Mem z l → Mem z (sort l)
+  sort_in [] {z = z} m = elim m [ ]
   sort_in (x ∷ l) m = insert_in x (sort l) (under (sort_in l) m)
 
   -- a duty with this serial is in the list; the rest is what the list leaves out of the pool, sorted

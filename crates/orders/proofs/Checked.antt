@@ -8,7 +8,7 @@ use mathlib.Core.List.Memᴰ
 use mathlib.Core.List.{List, [], ◌∷◌, ◌++◌, map}
 use Prim.Native.Nat.{ℕ}
 use lib.Dec.{eqb}
-use borrow.Author.Tests.{eqb-true, eqb_false}
+use borrow.Author.Tests.{eqb-true, eqb-false}
 use Rattle.orders.specs.Lists.{Mem, all, keep, Pairwise}
 use Rattle.orders.specs.Orders.{World, Pool, MayFollow, FailingSerials}
 use Rattle.orders.specs.Beginnings.{Beginning, FailsLast}
@@ -86,7 +86,7 @@ module _ (W : World) where
   may_follow_is : (x y : Duty) → may_follow x y ≡ true → MayFollow W x y
   may_follow_is x y e =
       let r = and_true (not (eqb (serial x) (serial y))) (not (wholly_before y x)) e in (
-        eqb_false (serial x) (serial y) (not_true (eqb (serial x) (serial y)) r.0),
+        eqb-false (serial x) (serial y) (not_true (eqb (serial x) (serial y)) r.0),
         not_true (wholly_before y x) r.1,
       )
 

@@ -7,7 +7,7 @@ use mathlib.Core.List.{List, [], ◌∷◌}
 use Prim.Native.Nat.{ℕ, ◌-◌, ◌≤◌, ◌<◌}
 use native.Mathlib.Omega.{arith}
 use lib.Dec.{ltb, leb}
-use borrow.Author.Tests.{ltb-true, ltb-false, lt_ltb, le-ltb, leb-true, leb-false}
+use borrow.Author.Tests.{ltb-true, ltb-false, lt-ltb, le-ltb, leb-true, leb-false}
 use Rattle.orders.specs.Lists.{Mem, here, there, Pairwise}
 use Rattle.orders.specs.Orders.{World, Order, Distinct, Pool, Green}
 use Rattle.orders.specs.Walks.{Allowed, without}
@@ -35,7 +35,7 @@ module _ (W : World) (start last : W.Duty → ℕ) where
           let k = w y m in
           let f = ltb-true (last x) (start y) (sym (j.ends y) ∙ p) in
           let g = ltb-true (last y) (start z) (sym (k.ends z) ∙ q) in
-          j.ends z ∙ lt_ltb (last x) (start z) (omega (arith, k.proper))
+          j.ends z ∙ lt-ltb (last x) (start z) (omega (arith, k.proper))
 
   -- duties in order of start are allowed
   pub rising_allowed :
@@ -91,7 +91,7 @@ half_open : (a e b : ℕ) → a < e → leb e b ≡ ltb (e - 1) b
 half_open a e b h =
     by_test
     (leb e b)
-    (λ t. t ∙ sym (lt_ltb (e - 1) b (omega (arith, leb-true e b t))))
+    (λ t. t ∙ sym (lt-ltb (e - 1) b (omega (arith, leb-true e b t))))
     (λ f. f ∙ sym (le-ltb (e - 1) b (omega (arith, leb-false e b f))))
 
 module _ (W : World) (start end : W.Duty → ℕ) where

@@ -5,7 +5,7 @@ use mathlib.Core.Logic.{◌↔◌, ◌⊎◌, inl, inr, ⊎_elim}
 use mathlib.Core.Bool.{Bool, true, false, not, ◌&&◌, ◌||◌, beq}
 use mathlib.Core.List.{List}
 use lib.Dec.{eqb}
-use borrow.Author.Tests.{eqb_false, ne_eqb}
+use borrow.Author.Tests.{eqb-false, ne_eqb}
 use Rattle.orders.specs.Lists.{Mem, any}
 use Rattle.orders.specs.Needs.{Duties, Holdings, ruled, needed, sets}
 use Rattle.orders.specs.Criterion.{
@@ -68,7 +68,7 @@ module _ (D : Duties) where
           record {
             x = x;
             open_x = m;
-            other = eqb_false (serial x) (serial d) (not_true (eqb (serial x) (serial d)) a.0);
+            other = eqb-false (serial x) (serial d) (not_true (eqb (serial x) (serial d)) a.0);
             wrong = b.0;
             late = not_true (wholly_before d x) b.1;
             unset = λ g n f k.

@@ -6,7 +6,7 @@ use mathlib.Core.Logic.{◌≢◌, ◌⊎◌, inl, inr, ⊎_elim}
 use mathlib.Core.Bool.{Bool, true, false, not, ◌||◌}
 use mathlib.Core.List.{List, [], ◌∷◌, ◌++◌}
 use lib.Dec.{eqb}
-use borrow.Author.Tests.{eqb_false, ne_eqb}
+use borrow.Author.Tests.{eqb-false, ne_eqb}
 use Rattle.orders.specs.Lists.{Mem, keep}
 use Rattle.orders.specs.Orders.{World, Order, Pool}
 use Rattle.orders.specs.Beginnings.{Beginning}
@@ -53,7 +53,7 @@ module _ (W : World) where
           open_y = ord.only y n;
           is_low = or_true (wholly_before y d) (wholly_before y x) l;
           not_after = b;
-          not_x = eqb_false (serial y) (serial x) q;
+          not_x = eqb-false (serial y) (serial x) q;
         }
 
     pub early_in : {y : Duty} → Early pool x d y → Mem y (keep (early W x d) o)

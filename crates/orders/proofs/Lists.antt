@@ -32,7 +32,7 @@ module _ {A : Type 0} where
       (λ h. let r = any_true p l h in (r.0, there r.1, r.2))
       (or_true (p x) (any p l) e)
 
-  pub any_mem : (p : A → Bool) {l : List A} {x : A} → Mem x l → p x ≡ true → any p l ≡ true
+  pub any_mem : (p : A → Bool) {x : A} {l : List A} → Mem x l → p x ≡ true → any p l ≡ true
   any_mem p (here {x = y} {xs = l} e) h = or_left (p y) (any p l) (rw e at h)
   any_mem p (there {x = y} {xs = l} m) h = or_right (p y) (any p l) (any_mem p m h)
 
@@ -62,7 +62,7 @@ module _ {A : Type 0} where
 
   -- ---- every member passes the test
 
-  pub all_mem : (p : A → Bool) {l : List A} {x : A} → all p l ≡ true → Mem x l → p x ≡ true
+  pub all_mem : (p : A → Bool) {x : A} {l : List A} → all p l ≡ true → Mem x l → p x ≡ true
   all_mem p e (here {x = y} {xs = l} q) = ap p q ∙ (and_true (p y) (all p l) e).0
   all_mem p e (there {x = y} {xs = l} m) = all_mem p (and_true (p y) (all p l) e).1 m
 
@@ -81,6 +81,7 @@ module _ {A : Type 0} where
   -- ---- the members that pass the test
 
   pub keep_mem : (p : A → Bool) (l : List A) {y : A} → Mem y (keep p l) → Mem y l × (p y ≡ true)
+  keep_mem p [] {y = y} m = elim m [ ]
   keep_mem p (x ∷ l) {y} m = go (λ n. let r = keep_mem p l n in (there r.0, r.1)) (p x) refl m
     where
       go :
@@ -90,7 +91,7 @@ module _ {A : Type 0} where
       go f true e (there n) = f n
       go f false e n = f n
 
-  pub keep_in : (p : A → Bool) {l : List A} {y : A} → Mem y l → p y ≡ true → Mem y (keep p l)
+  pub keep_in : (p : A → Bool) {y : A} {l : List A} → Mem y l → p y ≡ true → Mem y (keep p l)
   keep_in p (here q) h = rw (sym (ap p q) ∙ h) (here q)
   keep_in p {y} (there {x = x} {xs = l} m) h = go (p x) (keep_in p m h)
     where
@@ -196,6 +197,7 @@ module _ {A : Type 0} where
     pairwise_right (x ∷ a) b h = pairwise_right a b h.1
 
     pub pairwise_across : (a b : List A) → Pairwise R (a ++ b) → {x y : A} → Mem x a → Mem y b → R x y
+    pairwise_across [] b h {y = y} x5 n = elim x5 [ ]
     pairwise_across (z ∷ a) b h {y = y} (here e) n = rw e (h.0 y (Memᴰ.append_right a n))
     pairwise_across (z ∷ a) b h (there m) n = pairwise_across a b h.1 m n
 

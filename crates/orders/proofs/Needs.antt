@@ -22,6 +22,7 @@ module _ {H : Type 0} where
   pub met_need :
       (s : H → Bool) (o : Option (List (H × Bool))) (h : H) (p : Bool) → met s o ≡ true
       → Mem (h, p) (needed o) → s h ≡ p
+  met_need s none h p e m = elim m [ ]
   met_need s (some needs) h p e m = beq_true (s h) p (all_mem (λ n. beq (s n.0) n.1) e m)
 
   -- a need that is not met

@@ -65,6 +65,7 @@ module _ {B : Type 0} where
 
 module _ {A B : Type 0} (f : A → Option B) where
   none_found : {x : A} (l : List A) → first_found f l ≡ none → Mem x l → f x ≡ none
+  none_found [] e x3 = elim x3 [ ]
   none_found (z ∷ l) e (here p) = ap f p ∙ (neither (f z) (first_found f l) e).0
   none_found (z ∷ l) e (there m) = none_found l (neither (f z) (first_found f l) e).1 m
 
@@ -113,7 +114,7 @@ module _ {A : Type 0} (p : A → Bool) where
   keep_le [] = omega arith
   keep_le (x ∷ l) = let h = keep_le l in by_test (p x) (λ t. rw t (omega arith)) (λ f. rw f (omega arith))
 
-  keep_lt : {l : List A} {y : A} → Mem y l → p y ≡ false → length (keep p l) < length l
+  keep_lt : {y : A} {l : List A} → Mem y l → p y ≡ false → length (keep p l) < length l
   keep_lt (here {x = x} {xs = l} e) f =
       let out : p x ≡ false = sym (ap p e) ∙ f in let h = keep_le l in rw out (omega arith)
   keep_lt (there {x = x} {xs = l} m) f =

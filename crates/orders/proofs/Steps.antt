@@ -8,7 +8,7 @@ use mathlib.Core.Bool.{true, false, not}
 use mathlib.Core.List.Memᴰ
 use mathlib.Core.List.{List, [], ◌∷◌, ◌++◌}
 use lib.Dec.{eqb}
-use borrow.Author.Tests.{eqb-true, eqb_false}
+use borrow.Author.Tests.{eqb-true, eqb-false}
 use Rattle.orders.specs.Lists.{Mem, here, there}
 use Rattle.orders.specs.Orders.{World, Order, Distinct, Pool, Green, Failing}
 use Rattle.orders.specs.Walks.{Next, Left, without}
@@ -41,7 +41,7 @@ module _ (W : World) where
             (λ e. inr (keep_in (λ y. not (eqb (serial d) (serial y))) n (not_of_false _ e)));
         from = λ y n. (keep_mem _ pool n).0;
         gone = λ y n.
-            eqb_false (serial d) (serial y) (not_true (eqb (serial d) (serial y)) (keep_mem _ pool n).1);
+            eqb-false (serial d) (serial y) (not_true (eqb (serial d) (serial y)) (keep_mem _ pool n).1);
       }
 
   pub place_left :

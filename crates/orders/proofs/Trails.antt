@@ -13,7 +13,7 @@ use mathlib.Core.List.{
   append_assoc,
 }
 use lib.Dec.{eqb}
-use borrow.Author.Tests.{eqb-true, eqb_false}
+use borrow.Author.Tests.{eqb-true, eqb-false}
 use Rattle.orders.specs.Lists.{Mem, here, keep}
 use Rattle.orders.specs.Orders.{World, Order, MayFollow, Pool}
 use Rattle.orders.specs.Beginnings.{Beginning}
@@ -92,7 +92,7 @@ module _ (W : World) where
                 open_y = n;
                 is_low = inl e;
                 not_after = f;
-                not_x = eqb_false (serial z) (serial x) q;
+                not_x = eqb-false (serial z) (serial x) q;
               })
 
       -- x is wholly before what lies between, and not wholly before what comes earlier

@@ -13,11 +13,12 @@ use Rattle.orders.specs.Orders.{World, Order, MayFollow, Green, Permitted, Faili
 -- ---- members of a list of pictures
 
 module _ {A B : Type 0} (f : A → B) where
-  pub picture_in : {l : List A} {x : A} → Mem x l → Mem (f x) (map f l)
+  pub picture_in : {x : A} {l : List A} → Mem x l → Mem (f x) (map f l)
   picture_in (here e) = here (ap f e)
   picture_in (there m) = there (picture_in m)
 
   pub picture_of : (l : List A) {y : B} → Mem y (map f l) → (x : A) × Mem x l × (y ≡ f x)
+  picture_of [] {y = y} x' = elim x' [ ]
   picture_of (x ∷ l) (here e) = (x, here refl, e)
   picture_of (x ∷ l) (there m) = let r = picture_of l m in (r.0, there r.1, r.2)
 

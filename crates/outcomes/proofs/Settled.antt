@@ -5,7 +5,7 @@ use mathlib.Core.List.{List}
 use Prim.Native.Nat.{ℕ}
 use lib.Dec.{eqb}
 use lib.ListN.{length}
-use borrow.Author.Tests.{eqb-true, eqb_false}
+use borrow.Author.Tests.{eqb-true, eqb-false}
 use Rattle.orders.proofs.Tests.{by_test}
 use Rattle.board.specs.declared.Answer.{Answer}
 use Rattle.board.specs.declared.Board.{Board}
@@ -43,7 +43,7 @@ module _
         let m = p.accepted e in
         let n = q.accepted (sym same_number ∙ e) in (m.0 ∙ sym n.0, m.1 ∙ sym n.1))
         (λ t.
-        let d = eqb_false r.answer.number answer.done t in
+        let d = eqb-false r.answer.number answer.done t in
         let m = p.refused d in
         let n = q.refused (λ e. d (same_number ∙ e)) in (m.0 ∙ sym n.0, m.1 ∙ sym n.1))
 

@@ -1,4 +1,6 @@
 // What a call on the live board gives back, by value; a refusal; and the board after a call judged, for 8.
+#![tactic(auto)]
+
 ghost use Rattle.std.specs.Prelude.{◌≡◌, true};
 ghost use Rattle.board.specs.Good.{good};
 ghost use Rattle.outcomes.specs.Outcomes.{refused_with, Judges};

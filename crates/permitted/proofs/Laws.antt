@@ -6,10 +6,10 @@ use mathlib.Core.List.{List, [], ◌∷◌}
 use Prim.Native.Nat.{ℕ, zero, suc, ◌≤◌, ◌<◌, ◌^◌}
 use native.Mathlib.Omega.{arith}
 use lib.Dec.{eqb, ltb}
-use lib.ListN.{length, get_or, set, take, drop, length_set}
+use lib.ListN.{length, get_or, set, take, drop, length-set}
 use lib.Pow.{pow_pos}
-use lib.Seq.{get_or-set_same, get_or-set_other, take_set_lt, drop-set-lt, get_or-take}
-use borrow.Author.Tests.{eqb-true, eqb_false, ltb-true, lt_ltb}
+use lib.Seq.{get_or-set_same, get_or-set_other, take-set-lt, drop-set-lt, get_or-take}
+use borrow.Author.Tests.{eqb-true, eqb-false, ltb-true, lt-ltb}
 use Rattle.orders.specs.Lists.{all}
 use Rattle.orders.specs.Needs.{met, change}
 use Rattle.orders.proofs.Tests.{by_test, and_true, and_both}
@@ -47,14 +47,14 @@ module _ (sets : List ℕ) (target role new : ℕ) (held : Bool) (h : target < l
       by_test
       (eqb target user)
       (λ e. rw (e, ← eqb-true target user e, get_or-set_same sets target new 0 h) this)
-      (λ f. rw (f, get_or-set_other sets target user new 0 (λ e. eqb_false target user f (sym e))))
+      (λ f. rw (f, get_or-set_other sets target user new 0 (λ e. eqb-false target user f (sym e))))
     where
       this : in_set new q ≡ cond (eqb role q) held (in_set (get_or sets target 0) q)
       this =
           by_test
           (eqb role q)
           (λ e. rw (e, ← eqb-true role q e) same)
-          (λ f. rw f (other q (λ e. eqb_false role q f (sym e))))
+          (λ f. rw f (other q (λ e. eqb-false role q f (sym e))))
 
 module _ (permissions : List Permission) (rules : List Rule) (sets : List ℕ) (users roles : ℕ)
     (table : users ≤ length sets) (limit : roles ≤ max_roles) where
@@ -82,8 +82,8 @@ module _ (permissions : List Permission) (rules : List Rule) (sets : List ℕ) (
   changed_holdings what e = fun_ext (changed_held what e)
 
 pub changed_length : (sets : List ℕ) (what : What) → length (changed sets what) ≡ length sets
-changed_length sets (Grant target role) = length_set sets target (with_role (get_or sets target 0) role)
-changed_length sets (Revoke target role) = length_set sets target (without_role (get_or sets target 0) role)
+changed_length sets (Grant target role) = length-set sets target (with_role (get_or sets target 0) role)
+changed_length sets (Revoke target role) = length-set sets target (without_role (get_or sets target 0) role)
 changed_length sets (Use action object) = refl
 
 -- ---- every set within the roles
@@ -103,10 +103,10 @@ module _ {A : Type 0} (p : A → Bool) where
 module _ (sets : List ℕ) (users roles : ℕ) (fit : all (set_fits roles) sets ≡ true) where
   old_below : (target : ℕ) → get_or sets target 0 < 2 ^ roles
   old_below target =
-      ltb-true _ _ (all_get_d (set_fits roles) sets target 0 fit (lt_ltb 0 (2 ^ roles) (pow_pos roles)))
+      ltb-true _ _ (all_get_d (set_fits roles) sets target 0 fit (lt-ltb 0 (2 ^ roles) (pow_pos roles)))
 
   put_fits : (target new : ℕ) → new < 2 ^ roles → all (set_fits roles) (set sets target new) ≡ true
-  put_fits target new h = all_set (set_fits roles) sets target new fit (lt_ltb new (2 ^ roles) h)
+  put_fits target new h = all_set (set_fits roles) sets target new fit (lt-ltb new (2 ^ roles) h)
 
   pub changed_fits :
       (what : What) → what_fits users roles what ≡ true → all (set_fits roles) (changed sets what) ≡ true
@@ -126,7 +126,7 @@ module _ (sets : List ℕ) (users roles : ℕ) where
       → take users (set sets target (f (get_or sets target 0)))
       ≡ set (take users sets) target (f (get_or (take users sets) target 0))
   put_take f target h =
-      rw (take_set_lt users sets target (f (get_or sets target 0)) h, get_or-take users sets target 0 h)
+      rw (take-set-lt users sets target (f (get_or sets target 0)) h, get_or-take users sets target 0 h)
 
   -- An act on the table is one on the users' part of it,
   pub changed_take :

@@ -8,7 +8,7 @@ use mathlib.Core.List.{List, [], ◌∷◌}
 use Prim.Native.Nat.{ℕ, zero, suc, ◌+◌, ◌-◌, ◌≤◌, ◌<◌}
 use native.Mathlib.Numerals.{add-one}
 use native.Mathlib.Omega.{arith}
-use lib.ListN.{length, set, drop, get_or, length_set, drop_of_length-le}
+use lib.ListN.{length, set, drop, get_or, length-set, drop_of_length-le}
 use lib.Seq.{drop-cons, take-append_seam}
 use Rattle.orders.specs.Lists.{any, keep}
 use Rattle.orders.specs.Needs.{met}
@@ -157,7 +157,7 @@ module _ {b : Board} {left : ℕ} {before : List ℕ} where
 written_long : (at : ℕ) (order : List Duty) (list : List ℕ) → length (written at order list) ≡ length list
 written_long at [] list = refl
 written_long at (d ∷ order) list =
-    length_set (written (at + 1) order list) at d.serial.0 ∙ written_long (at + 1) order list
+    length-set (written (at + 1) order list) at d.serial.0 ∙ written_long (at + 1) order list
 
 module _ (b : Board) (left : ℕ) {at : ℕ} {before : List ℕ} (d : Duty) where
   -- not permitted

@@ -1,5 +1,7 @@
 // A plain walk of every order, for pools of at most 8 duties: a second engine beside the quick verdict. It
 // does each duty that may come next, lower serials first, and then walks the rest in the same way.
+#![tactic(auto)]
+
 ghost use Rattle.std.specs.Prelude.{◌≡◌, ◌+◌, ◌≤◌, set};
 ghost use Rattle.board.specs.Limits.{max_duties};
 ghost use Rattle.plain.specs.Walks.{Walks};

@@ -7,7 +7,7 @@ use Prim.Native.Nat.{ℕ, ◌+◌, ◌-◌, ◌≤◌, ◌<◌}
 use native.Mathlib.Nat.{sub_self, add-zero}
 use native.Mathlib.Numerals.{add-one}
 use native.Mathlib.Omega.{arith}
-use lib.ListN.{length, take, drop, get_or, set, replicate, length-append, length_set}
+use lib.ListN.{length, take, drop, get_or, set, replicate, length-append, length-set}
 use lib.ListN.{replicate-append-replicate}
 use lib.Seq.{take-suc, take_all, take-suc-set, drop-set-lt, drop-drop, get_or-drop}
 use Rattle.orders.specs.Lists.{keep}
@@ -69,7 +69,7 @@ module _ {A : Type 0} {p : A → Bool} {room : ℕ} {l : List A} where
             let fits : count < length out = omega (arith, known.few, known.long) in
             record {
               few = omega (arith, known.few);
-              long = length_set out count x ∙ known.long;
+              long = length-set out count x ∙ known.long;
               is = rw (keep_one p l i d h t, ← known.is, add-one count) (take-suc-set out count x fits);
               counted = rw (keep_one p l i d h t, known.counted) (sym (length-append so_far (x ∷ [])));
               rest = drop-set-lt (i + 1) out count x (omega (arith, known.few)) ∙ same_later;
@@ -109,7 +109,7 @@ module _ {A : Type 0} {filler : A} {room count : ℕ} {l : List A} where
     pub filled : k < room → FilledUp filler room count l (set out k filler) (k + 1)
     filled h =
         record {
-          long = length_set out k filler ∙ known.long;
+          long = length-set out k filler ∙ known.long;
           from = omega (arith, known.from);
           within = omega arith;
           is =

@@ -5,7 +5,7 @@ use mathlib.Core.Logic.{⊎_elim}
 use mathlib.Core.Bool.{Bool, true, false, true≢false}
 use mathlib.Core.Option.{some}
 use Prim.Native.Nat.{ℕ}
-use borrow.Author.Tests.{eqb-true, eqb_false}
+use borrow.Author.Tests.{eqb-true, eqb-false}
 use Rattle.orders.specs.Lists.{Mem, find}
 use Rattle.orders.proofs.Lists.{any_false, mid, Finds, find_case}
 use Rattle.board.specs.declared.Duty.{Duty}
@@ -35,7 +35,7 @@ module _ (v : View) (serial : ℕ) where
   pub found_missing : found (find (named serial) v.duties) ≡ Missing → NotOpen v serial
   found_missing e d m is =
       ⊎_elim
-      (λ n. eqb_false serial d.serial.0 (any_false (named serial) n.missed m) (sym is))
+      (λ n. eqb-false serial d.serial.0 (any_false (named serial) n.missed m) (sym is))
       (λ f. true≢false (ap is_open (sym (ap found f.finds) ∙ e)))
       (find_case (named serial) v.duties)
 

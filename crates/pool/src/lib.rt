@@ -1,5 +1,7 @@
 // The open duties: the one with a serial, whether one is wholly before a duty, and those that are left when
 // one is taken out.
+#![tactic(auto)]
+
 ghost use Rattle.std.specs.Prelude.{◌≡◌, length, take};
 ghost use Rattle.orders.specs.Lists.{any, find};
 ghost use Rattle.board.specs.After.{named, without_serial};

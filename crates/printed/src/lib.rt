@@ -1,5 +1,7 @@
 // What the program prints for an input: the line of what open answers on the input, cut to one byte more than
 // the longest file.
+#![tactic(auto)]
+
 ghost use Rattle.std.specs.Prelude.{◌≡◌, length};
 ghost use Rattle.printed.specs.Printed.{cut, Printed};
 

@@ -8,7 +8,7 @@ use mathlib.Core.List.{List, [], ◌∷◌, ◌++◌}
 use Prim.Native.Nat.{ℕ}
 use native.Mathlib.Omega.{arith}
 use lib.ListN.{length}
-use borrow.Author.Tests.{eqb_false, ne_eqb}
+use borrow.Author.Tests.{eqb-false, ne_eqb}
 use Rattle.orders.specs.Lists.{Mem}
 use Rattle.orders.proofs.Lists.{keep_mem, keep_in}
 use Rattle.orders.proofs.Tests.{not_true, not_of_false}
@@ -133,7 +133,7 @@ removed_so : (serial : ℕ) (v w : View) → w.duties ≡ without_serial serial 
 removed_so serial v w is d = (
   λ m.
       let kept = keep_mem other v.duties (subst (Mem d) is m) in
-      (kept.0, λ q. eqb_false serial d.serial.0 (not_true (named serial d) kept.1) (sym q)),
+      (kept.0, λ q. eqb-false serial d.serial.0 (not_true (named serial d) kept.1) (sym q)),
   λ p.
       subst (Mem d) (sym is)
       (keep_in other p.0

@@ -5,7 +5,7 @@ use mathlib.Core.Bool.{Bool, true, false, ◌||◌, cond}
 use Prim.Native.Nat.{ℕ, ◌<◌}
 use native.Mathlib.Omega.{arith}
 use lib.Dec.{eqb}
-use borrow.Author.Tests.{eqb-true, eq-eqb, ne_eqb, ltb-true, leb-true, lt_ltb, le-leb}
+use borrow.Author.Tests.{eqb-true, eq-eqb, ne_eqb, ltb-true, leb-true, lt-ltb, le-leb}
 use Rattle.orders.proofs.Tests.{is_true, and_left, and_right, and_both, or_right}
 use Rattle.board.specs.declared.What.{What}
 use Rattle.board.specs.declared.What.TheVariants.{Grant, Revoke, Use}
@@ -65,9 +65,9 @@ module _ (v : View) (action first second : ℕ) where
       rw (ne_eqb action 0 (λ e. omega arith), ne_eqb action 1 (λ e. omega arith), a.action_is, a.object_is)
 
   pub asks_fit : (what : What) → Asks v action first second what → what_fits v.users v.roles what ≡ true
-  asks_fit (Grant target role) a = search (and_both, lt_ltb)
-  asks_fit (Revoke target role) a = search (and_both, lt_ltb)
-  asks_fit (Use other object) a = search (and_both, lt_ltb, le-leb)
+  asks_fit (Grant target role) a = search (and_both, lt-ltb)
+  asks_fit (Revoke target role) a = search (and_both, lt-ltb)
+  asks_fit (Use other object) a = search (and_both, lt-ltb, le-leb)
 
   second_fits_lem : (what : What) → Asks v action first second what → second_fits action second ≡ true
   second_fits_lem (Grant target role) a = rw a.0
@@ -83,5 +83,5 @@ module _ (v : View) (action first second : ℕ) where
       let told : what_fits v.users v.roles (what_of action first second) ≡ true =
       subst (λ (w : What). what_fits v.users v.roles w ≡ true) (asks_one what a) (asks_fit what a) in
       let second_fit = second_fits_lem what a in
-      let known = lt_ltb doer v.users h in
+      let known = lt-ltb doer v.users h in
       search and_both

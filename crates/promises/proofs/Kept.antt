@@ -5,7 +5,7 @@ use mathlib.Core.List.{List, []}
 use Prim.Native.Nat.{ℕ}
 use lib.Dec.{eqb}
 use lib.ListN.{length}
-use borrow.Author.Tests.{eqb-true, eqb_false}
+use borrow.Author.Tests.{eqb-true, eqb-false}
 use Rattle.orders.proofs.Tests.{by_test}
 use Rattle.board.specs.declared.Answer.{Answer}
 use Rattle.board.specs.declared.Board.{Board}
@@ -108,7 +108,7 @@ module _
         (λ t.
         let e = eqb-true r.number answer.done t in
         subst P (sym (c.accepted e).0) (accepted (done→none e)))
-        (λ f. subst P (sym (c.refused (eqb_false r.number answer.done f)).0) refused)
+        (λ f. subst P (sym (c.refused (eqb-false r.number answer.done f)).0) refused)
 
 pub kept :
     (b : Board) (call : Call) (r : Answer) (left : Board) (after : List ℕ) → Keeps b call r left after

@@ -9,7 +9,7 @@ use Prim.Native.Nat.{ℕ}
 use native.Mathlib.Omega.{arith}
 use lib.Dec.{eqb, leb}
 use lib.ListN.{length}
-use borrow.Author.Tests.{eqb_false, ltb-true, ltb-false, lt_ltb, le-ltb, leb-true, le-leb}
+use borrow.Author.Tests.{eqb-false, ltb-true, ltb-false, lt-ltb, le-ltb, leb-true, le-leb}
 use Rattle.orders.specs.Lists.{Mem}
 use Rattle.orders.proofs.Tests.{clash, is_true, is_false, not_true, and_left, and_right, and_both}
 use Rattle.board.specs.declared.Answer.{Answer}
@@ -156,7 +156,7 @@ module _ (b : Board) (size : Sized b) (q : RequestDo) where
         to_end =
             omega (arith, leb-true q.clock d.end (and_right (leb d.start q.clock) _ in_window_lem));
         none_before = λ other n h.
-            let before = lt_ltb other.end d.start (omega (arith, h)) in
+            let before = lt-ltb other.end d.start (omega (arith, h)) in
             held_back_lem (named_d _ (record { other = other; open_other = n; before = before }));
         permitted = says_permitted b is_good d.doer d.what (λ f. not_permitted_lem (named_d _ f));
       }
@@ -247,8 +247,8 @@ past_earlier (c ∷ cs) red n k l (inl a) e =
     let not_done = not_true (eqb c.number answer.done) (and_left _ (lacks answer.done cs) k) in
     let not_red = not_true (eqb c.number answer.red) (and_left _ (lacks answer.red cs) l) in
     ⊎_elim
-    (λ d. absurd (eqb_false c.number answer.done not_done (sym a.1 ∙ d)))
-    (λ d. absurd (eqb_false c.number answer.red not_red (sym a.1 ∙ d)))
+    (λ d. absurd (eqb-false c.number answer.done not_done (sym a.1 ∙ d)))
+    (λ d. absurd (eqb-false c.number answer.red not_red (sym a.1 ∙ d)))
     e
 past_earlier (c ∷ cs) red n k l (inr a) e = (
   a.0,

@@ -7,7 +7,7 @@ use native.Mathlib.Omega.{arith}
 use lib.Dec.{eqb}
 use lib.ListN.{length, take, drop}
 use lib.Seq.{take_at, drop_at}
-use borrow.Author.Tests.{eqb-true, eqb_false}
+use borrow.Author.Tests.{eqb-true, eqb-false}
 use Rattle.orders.proofs.Tests.{by_test}
 use Rattle.board.specs.declared.Answer.{Answer}
 use Rattle.board.specs.declared.Board.{Board}
@@ -96,7 +96,7 @@ module _
         let other = q.accepted (sym same_number ∙ e) in
         (one.0 ∙ sym other.0, one.1 ∙ sym other.1))
         (λ f.
-        let d = eqb_false r.number answer.done f in
+        let d = eqb-false r.number answer.done f in
         let one = p.refused d in
         let other = q.refused (λ e. d (same_number ∙ e)) in
         (one.0 ∙ sym other.0, one.1 ∙ sym other.1))

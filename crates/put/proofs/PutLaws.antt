@@ -6,7 +6,7 @@ use Prim.Native.Nat.{ℕ, ◌+◌, ◌≤◌, ◌<◌}
 use native.Mathlib.Nat.{add-zero}
 use native.Mathlib.Numerals.{add-one}
 use native.Mathlib.Omega.{arith}
-use lib.ListN.{length, take, drop, set, length-append, length-take, length_set, take-append-drop}
+use lib.ListN.{length, take, drop, set, length-append, length-take, length-set, take-append-drop}
 use lib.Seq.{set_split, take_at, drop_at, drop-drop}
 use Rattle.put.specs.Put.{Put}
 
@@ -25,7 +25,7 @@ put_one l at b h =
       list = rw add-one (set_split l at b h);
       place = refl;
       fits = omega arith;
-      kept = length_set l at b;
+      kept = length-set l at b;
     }
 
 pub put_then : {a b x y z : List ℕ} {at m n : ℕ} → Put a x at y m → Put b y m z n → Put (a ++ b) x at z n

@@ -9,7 +9,7 @@ use native.Mathlib.Numerals.{add-one}
 use lib.Dec.{eqb}
 use lib.ListN.{length, get_or, take}
 use lib.Seq.{take-suc}
-use borrow.Author.Tests.{eqb-true, eqb_false}
+use borrow.Author.Tests.{eqb-true, eqb-false}
 use Rattle.orders.specs.Lists.{any}
 use Rattle.orders.specs.Needs.{sets, sets_to}
 use Rattle.orders.proofs.Tests.{by_test, beq_refl}
@@ -117,7 +117,7 @@ module _ (permissions : List Permission) (rules : List Rule) (user q : ℕ) (h :
           rw
           (e, f, same (sym (eqb-true role q f)), not_itself p)
           (nothing_left (wrong_in q p set) (beq p p) (beq_refl p)))
-          (λ f. rw (e, f, other (λ i. eqb_false role q f (sym i))) (and_nothing _))
+          (λ f. rw (e, f, other (λ i. eqb-false role q f (sym i))) (and_nothing _))
 
   -- of grants and revokes one sets it right, the other leaves it as wrong or as right as it was
   granted_wrong :

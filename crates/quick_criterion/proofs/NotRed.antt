@@ -7,7 +7,7 @@ use mathlib.Core.List.{List}
 use Prim.Native.Nat.{ℕ, ◌≤◌}
 use native.Mathlib.Omega.{arith}
 use lib.Dec.{ltb}
-use borrow.Author.Tests.{ltb-true, lt_ltb}
+use borrow.Author.Tests.{ltb-true, lt-ltb}
 use Rattle.orders.specs.Criterion.{stays_wrong, made_wrong, red_at, is_red}
 use Rattle.orders.specs.Lists.{Mem, any, all}
 use Rattle.orders.specs.Needs.{ruled, needed}
@@ -58,8 +58,8 @@ both_wider :
 both_wider a b m n k l h i e =
     let r = and_true (ltb a m) (ltb b n) e in
     and_both (ltb a k) (ltb b l)
-    (lt_ltb a k (omega (arith, ltb-true a m r.0)))
-    (lt_ltb b l (omega (arith, ltb-true b n r.1)))
+    (lt-ltb a k (omega (arith, ltb-true a m r.0)))
+    (lt-ltb b l (omega (arith, ltb-true b n r.1)))
 
 fits_wider :
     (users roles : ℕ) (what : What) → users ≤ max_users → roles ≤ max_roles → what_fits users roles what ≡ true

@@ -7,7 +7,7 @@ use mathlib.Core.Bool.{Bool, true, false, not, ◌&&◌}
 use mathlib.Core.List.{List}
 use Prim.Native.Nat.{ℕ, ◌<◌}
 use lib.Dec.{eqb, ltb}
-use borrow.Author.Tests.{eqb-true, eq-eqb, ltb-true, lt_ltb}
+use borrow.Author.Tests.{eqb-true, eq-eqb, ltb-true, lt-ltb}
 use Rattle.orders.specs.Lists.{Mem, any}
 use Rattle.orders.specs.Needs.{Duties, needed, sets_to, sets}
 use Rattle.orders.specs.Criterion as criterion
@@ -62,7 +62,7 @@ has_room :
 has_room user q target role h =
     by_test
     (eqb q role)
-    (λ e. rw (eqb-true q role e, lt_ltb role width h) (sym (and_yes _)))
+    (λ e. rw (eqb-true q role e, lt-ltb role width h) (sym (and_yes _)))
     (λ f. rw (f, ← and_none (eqb user target)) (sym (and_none (ltb q width))))
 
 module _ (permissions : List Permission) (rules : List Rule) where
@@ -80,7 +80,7 @@ module _ (permissions : List Permission) (rules : List Rule) where
   grant_sets : (target role : ℕ) → role < max_roles → SetsWrong (Grant target role) (target, role) false
   grant_sets target role h =
       record {
-        asked_of = λ doer ask. rw (lt_ltb role width h);
+        asked_of = λ doer ask. rw (lt-ltb role width h);
         wrong = same_holding_lem (target, role);
         undone = undone;
       }
@@ -95,7 +95,7 @@ module _ (permissions : List Permission) (rules : List Rule) where
   revoke_sets : (target role : ℕ) → role < max_roles → SetsWrong (Revoke target role) (target, role) true
   revoke_sets target role h =
       record {
-        asked_of = λ doer ask. rw (lt_ltb role width h);
+        asked_of = λ doer ask. rw (lt-ltb role width h);
         wrong = same_holding_lem (target, role);
         undone = undone;
       }

@@ -8,7 +8,7 @@ use native.Mathlib.Nat.{add-zero}
 use native.Mathlib.Omega.{arith}
 use lib.Dec.{eqb}
 use lib.ListN.{length}
-use borrow.Author.Tests.{eqb-true, eqb_false}
+use borrow.Author.Tests.{eqb-true, eqb-false}
 use Rattle.orders.proofs.Tests.{by_test, and_left, and_right, is_true}
 use Rattle.board.specs.declared.Counts.{Counts}
 use Rattle.board.specs.Answers.{NoneApplies}
@@ -89,7 +89,7 @@ module _ (s : List ℕ) (bytes : AreBytes s) (none : NoneApplies (read_checks s)
   version_is : two s 0 ≡ version
   version_is =
       by_test (eqb (two s 0) version) (λ e. eqb-true (two s 0) version e)
-      (λ e. absurd (none.1.0 (eqb_false (two s 0) version e)))
+      (λ e. absurd (none.1.0 (eqb-false (two s 0) version e)))
 
   laid : laid_out s ≡ true
   laid = is_true (laid_out s) none.1.1.1.0

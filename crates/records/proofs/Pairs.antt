@@ -4,7 +4,7 @@ use mathlib.Core.Path.{◌≡◌}
 use Prim.Native.Nat.{ℕ, ◌<◌}
 use native.Mathlib.Omega.{arith}
 use lib.Dec.{eqb, ltb}
-use borrow.Author.Tests.{eqb-true, eqb_false, ltb-true, ltb-false, lt_ltb, le-ltb}
+use borrow.Author.Tests.{eqb-true, eqb-false, ltb-true, ltb-false, lt-ltb, le-ltb}
 use Rattle.orders.proofs.Tests.{by_test, same_test}
 use Rattle.board.specs.Good.{pair_below}
 use Rattle.records.specs.Pairs.{join}
@@ -12,7 +12,7 @@ use Rattle.records.specs.Pairs.{join}
 pub joined_below : (a b c d : ℕ) → b < 65536 → d < 65536 → pair_below a b c d ≡ ltb (join a b) (join c d)
 joined_below a b c d small_b small_d =
     by_test (ltb a c)
-    (λ e. let h = ltb-true a c e in rw (e, lt_ltb (join a b) (join c d) (omega arith)))
+    (λ e. let h = ltb-true a c e in rw (e, lt-ltb (join a b) (join c d) (omega arith)))
     (λ e.
     let h = ltb-false a c e in
     by_test (eqb a c)
@@ -20,6 +20,6 @@ joined_below a b c d small_b small_d =
     let k = eqb-true a c f in
     rw (e, f)
     (same_test _ _
-    (λ t. let m = ltb-true b d t in lt_ltb (join a b) (join c d) (omega arith))
-    (λ t. let m = ltb-true (join a b) (join c d) t in lt_ltb b d (omega arith))))
-    (λ f. let k = eqb_false a c f in rw (e, f, le-ltb (join a b) (join c d) (omega arith))))
+    (λ t. let m = ltb-true b d t in lt-ltb (join a b) (join c d) (omega arith))
+    (λ t. let m = ltb-true (join a b) (join c d) t in lt-ltb b d (omega arith))))
+    (λ f. let k = eqb-false a c f in rw (e, f, le-ltb (join a b) (join c d) (omega arith))))

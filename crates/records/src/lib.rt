@@ -1,5 +1,7 @@
 // The tests of the counts and of one record, which the file reader, the requests and the test of a whole
 // board value share.
+#![tactic(auto)]
+
 ghost use Rattle.std.specs.Prelude.{◌≡◌};
 ghost use Rattle.board.specs.Doing.{what_of, second_fits};
 ghost use Rattle.board.specs.Good as g;

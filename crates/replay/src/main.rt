@@ -1,5 +1,7 @@
 // Reads a board file and calls from standard input, opens the board, makes the calls one after the other on
 // the live board, and prints every answer and, at the end, the board. docs/REPLAY.md has the format.
+#![tactic(auto)]
+
 mod lent;
 mod show;
 mod text;

@@ -1,5 +1,7 @@
 // What the calls on the live board ask, in raw numbers, and the test of what is to be done (answer 11). A
 // duty is named by its serial.
+#![tactic(auto)]
+
 ghost use Rattle.std.specs.Prelude.{◌≡◌};
 ghost use Rattle.requests.specs.Requests.{doing_fits};
 

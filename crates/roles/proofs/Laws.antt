@@ -11,7 +11,7 @@ use lib.Bits.{bit_and, bit_or, bit_xor, differ, and_shr, or_shr, xor_shr, and_st
 use lib.Bits.{or_lt, xor_lt}
 use lib.Dec.{eqb, ltb}
 use lib.Pow.{pow-lt, pow_mono, pow-add, shl-shr, shl_exact}
-use borrow.Author.Tests.{ne_eqb, lt_ltb}
+use borrow.Author.Tests.{ne_eqb, lt-ltb}
 use Rattle.roles.specs.Roles.{width, in_set, with_role, without_role}
 
 -- bit i of a number
@@ -100,7 +100,7 @@ either false x y q e = refl
 
 pub with_same : (set role : ℕ) → role < width → in_set (with_role set role) role ≡ true
 unfolding with_role
-with_same set role h = rw (lt_ltb role width h, with_bit_same set role)
+with_same set role h = rw (lt-ltb role width h, with_bit_same set role)
 
 pub with_other : (set role q : ℕ) → (q ≡ role → ⊥) → in_set (with_role set role) q ≡ in_set set q
 unfolding with_role
@@ -109,7 +109,7 @@ with_other set role q n =
 
 pub without_same : (set role : ℕ) → role < width → in_set (without_role set role) role ≡ false
 unfolding without_role
-without_same set role h = rw (lt_ltb role width h, without_bit_same set role)
+without_same set role h = rw (lt-ltb role width h, without_bit_same set role)
 
 pub without_other : (set role q : ℕ) → (q ≡ role → ⊥) → in_set (without_role set role) q ≡ in_set set q
 unfolding without_role

@@ -12,7 +12,7 @@ use lib.Bits.{bit_and, bit_or, bit_xor, or_zero_l, or_zero_r, xor_zero_r, and_ze
 use lib.Bits.{and_le_r}
 use lib.Dec.{eqb, ltb}
 use lib.Pow.{pow-add, pow_pos, shr-shr}
-use borrow.Author.Tests.{eqb-true, eqb_false, eq-eqb, ne_eqb, ltb-true}
+use borrow.Author.Tests.{eqb-true, eqb-false, eq-eqb, ne_eqb, ltb-true}
 use Rattle.roles.specs.Roles.{width, in_set, with_role, without_role}
 use Rattle.roles.proofs.Laws.{bit, and_bit, with_same, with_other}
 
@@ -73,7 +73,7 @@ only_one a b h = go (eqb b a) refl
     go : (t : Bool) → eqb b a ≡ t → in_set (with_role 0 b) a ≡ eqb b a
     go true e = let same = eqb-true b a e in rw (e, same) (with_same 0 a h)
     go false e =
-        with_other 0 b a (λ q. eqb_false b a e (sym q))
+        with_other 0 b a (λ q. eqb-false b a e (sym q))
         ∙ ne_eqb (bit 0 a) 1 (λ q. omega (arith, q, zero-div (2 ^ a)))
         ∙ sym e
 
@@ -105,7 +105,7 @@ all_there x (suc y) k f = let e = eqb-true x 1 (f (eq-eqb (suc y) 1 (omega arith
 
 none_there : (x y : ℕ) → x < 2 → y < 2 → (eqb y 1 ≡ true → eqb x 1 ≡ false) → min x y ≡ 0
 none_there x zero h k f = omega arith
-none_there x (suc y) h k f = let e = eqb_false x 1 (f (eq-eqb (suc y) 1 (omega arith))) in omega arith
+none_there x (suc y) h k f = let e = eqb-false x 1 (f (eq-eqb (suc y) 1 (omega arith))) in omega arith
 
 module _ (n set other : ℕ) (fits : other < 2 ^ n) where
   -- what the two have in common is a set whose bits are known

@@ -1,4 +1,6 @@
 // Sets of roles. A set is a number of 32 bits: the role r is in it where bit r is 1.
+#![tactic(auto)]
+
 ghost use Rattle.std.specs.Prelude.{◌≡◌};
 ghost use Rattle.roles.specs.Roles.{in_set, with_role, without_role};
 

@@ -1,4 +1,6 @@
 // The lines for many inputs in one: each is four bytes of length, lowest first, and then its bytes.
+#![tactic(auto)]
+
 ghost use Rattle.std.specs.Prelude.{◌<◌};
 
 // More than the longest input here.

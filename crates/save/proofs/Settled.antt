@@ -4,7 +4,7 @@ use mathlib.Core.List.{List}
 use Prim.Native.Nat.{ℕ}
 use lib.Dec.{eqb}
 use lib.ListN.{length}
-use borrow.Author.Tests.{eqb-true, eqb_false}
+use borrow.Author.Tests.{eqb-true, eqb-false}
 use Rattle.orders.proofs.Tests.{by_test}
 use Rattle.board.specs.declared.Answer.{Answer}
 use Rattle.board.specs.declared.Board.{Board}
@@ -19,7 +19,7 @@ same_save b before after after' r r' p q =
     by_test
     (eqb r.number answer.done)
     (λ e. both (eqb-true r.number answer.done e))
-    (λ e. neither (eqb_false r.number answer.done e))
+    (λ e. neither (eqb-false r.number answer.done e))
   where
     number : r.number ≡ r'.number
     number = same_answer (save_checks b (length before)) r.number r'.number p.number q.number

@@ -3,12 +3,12 @@ use mathlib.Core.Path.{◌≡◌}
 use mathlib.Core.List.{List, [], ◌∷◌}
 use Prim.Native.Nat.{ℕ, ◌+◌, ◌≤◌, ◌<◌}
 use native.Mathlib.Omega.{arith}
-use lib.ListN.{length, set, length_set}
+use lib.ListN.{length, set, length-set}
 use Rattle.put.specs.Put.{Put}
 use Rattle.put.proofs.PutLaws.{put_one, put_then}
 
 pub next_inside : (l : List ℕ) (at byte : ℕ) → at + 2 ≤ length l → at + 1 < length (set l at byte)
-next_inside l at byte h = omega (arith, length_set l at byte)
+next_inside l at byte h = omega (arith, length-set l at byte)
 
 pub two_put :
     (l : List ℕ) (at low high : ℕ) → at + 2 ≤ length l

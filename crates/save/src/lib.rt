@@ -1,4 +1,6 @@
 // Save the board as a version 1 file, at the start of a lent buffer.
+#![tactic(auto)]
+
 mod bytes;
 mod fields;
 mod header;

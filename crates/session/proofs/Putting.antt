@@ -3,7 +3,7 @@ use mathlib.Core.Path.{◌≡◌, refl}
 use mathlib.Core.Bool.{Bool, true, false, not}
 use mathlib.Core.List.{List}
 use Prim.Native.Nat.{ℕ, ◌≤◌, ◌<◌}
-use borrow.Author.Tests.{not_true, not_false, lt_ltb, le-ltb}
+use borrow.Author.Tests.{not-true, not-false, lt-ltb, le-ltb}
 use lib.ListN.{set}
 use Rattle.session.specs.Pokes.{put_at}
 
@@ -12,7 +12,7 @@ module _ {A : Type 0} where
   pub not_chosen :
       (chosen : Bool) (room : ℕ) (l : List A) (at : ℕ) (new : A) → not chosen ≡ true
       → l ≡ put_at chosen room l at new
-  not_chosen chosen room l at new left = rw (not_true chosen left)
+  not_chosen chosen room l at new left = rw (not-true chosen left)
 
   -- there is no such place
   pub no_place :
@@ -25,4 +25,4 @@ module _ {A : Type 0} where
       (chosen : Bool) (room : ℕ) (l : List A) (at : ℕ) (new made : A) → not chosen ≡ false → at < room
       → made ≡ new → set l at made ≡ put_at chosen room l at new
   put chosen room l at new made taken there is =
-      rw (not_false chosen taken, lt_ltb at room there, is)
+      rw (not-false chosen taken, lt-ltb at room there, is)

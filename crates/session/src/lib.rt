@@ -1,5 +1,7 @@
 // A session: a board file and records, each of which asks for a call or pokes the live board. docs/REPLAY.md
 // has the format. What the programs that read a session share.
+#![tactic(auto)]
+
 mod call;
 mod input;
 mod poke;

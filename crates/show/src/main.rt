@@ -1,5 +1,7 @@
 // Reads a board file of at most 8 duties from standard input and prints every order that the windows allow,
 // lower serials first, then how many lines there are and the verdict. docs/SHOW.md says how to read it.
+#![tactic(auto)]
+
 mod orders;
 
 use board::{Answer, Board};

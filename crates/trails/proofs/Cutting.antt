@@ -8,7 +8,7 @@ use Prim.Native.Nat.{ℕ, ◌+◌, ◌≤◌, ◌<◌}
 use native.Mathlib.Omega.{arith}
 use lib.ListN.{length, get_or, drop, length-append}
 use lib.Seq.{append_snoc, set_at}
-use borrow.Author.Tests.{lt_leb}
+use borrow.Author.Tests.{lt-leb}
 use Rattle.orders.specs.Lists.{here, there, keep}
 use Rattle.orders.specs.Needs.{met}
 use Rattle.orders.specs.Orders.{World}
@@ -95,7 +95,7 @@ module _ (v : View) where
         let room : w.length < length (first ++ (z ∷ rest)) = omega arith in
         rw (
           e,
-          lt_leb (length (first ++ (z ∷ rest))) w.length room,
+          lt-leb (length (first ++ (z ∷ rest))) w.length room,
           ask_met w.holdings y.doer (asked_for v.permissions v.rules y.what),
           t,
           set_at first z rest y.serial.0 w.length (sym p),

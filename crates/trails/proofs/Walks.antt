@@ -8,7 +8,7 @@ use Prim.Native.Nat.{ℕ, suc, ◌+◌, ◌≤◌, ◌<◌}
 use native.Mathlib.Numerals.{add-one}
 use native.Mathlib.Omega.{arith}
 use lib.Dec.{leb}
-use lib.ListN.{length, take, drop, get_or, length_set, length-take, drop_of_length-le}
+use lib.ListN.{length, take, drop, get_or, length-set, length-take, drop_of_length-le}
 use lib.Seq.{drop-cons, get_or-take}
 use borrow.Author.Tests.{leb-true, leb-false}
 use Rattle.orders.specs.Lists.{Mem, keep}
@@ -31,7 +31,7 @@ one_keeps ask w y =
     by_test
     (w.0.stuck || leb (length w.1) w.0.length)
     (λ e. rw e)
-    (λ e. rw e (length_set w.1 w.0.length y.serial.0))
+    (λ e. rw e (length-set w.1 w.0.length y.serial.0))
 
 do_append :
     (asked : Duty → Ask) (w : Walk × List ℕ) (l m : List Duty)

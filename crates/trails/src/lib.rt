@@ -1,5 +1,7 @@
 // The failing order: the trail of the duty that gets stuck and the one that spoils it, done duty by duty and
 // cut after the first that is not permitted.
+#![tactic(auto)]
+
 ghost use Rattle.std.specs.Prelude.{◌≡◌};
 ghost use Rattle.in_order.specs.InOrder.{by_keys};
 ghost use Rattle.trails.specs.Walking.{in_trail, meets_ask, walking, do_one};

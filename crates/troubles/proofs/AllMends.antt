@@ -5,7 +5,7 @@ use mathlib.Core.List.{List, [], ◌∷◌, map, map-append}
 use Prim.Native.Nat.{ℕ, ◌+◌, ◌≤◌, ◌<◌}
 use native.Mathlib.Numerals.{add-one}
 use native.Mathlib.Omega.{arith}
-use lib.ListN.{length, take, get_or, set, length_set, length-map}
+use lib.ListN.{length, take, get_or, set, length-set, length-map}
 use lib.Seq.{length-take-le, take_all, take-suc, take-suc-set, get_or-take}
 use Rattle.orders.proofs.Loops.{get_d_map}
 use Rattle.board.specs.declared.Duty.{Duty}
@@ -78,7 +78,7 @@ module _ {setters : List Setter} {m : ℕ} where
         {mends : List ℕ} {best k : ℕ} → m ≤ max_duties → Mended setters m mends j → Best setters m j best k
         → m ≤ k → Mended setters m (set mends j best) (j + 1)
     mended_more {mends} {best} {k} room known found h =
-        record { some = omega arith; long = length_set mends j best ∙ known.long; are = one }
+        record { some = omega arith; long = length-set mends j best ∙ known.long; are = one }
       where
         one :
             (l : List Duty) → take m setters ≡ map setter_of l

@@ -4,7 +4,7 @@ use mathlib.Core.List.{List, [], ◌∷◌, map, map-append}
 use Prim.Native.Nat.{ℕ, ◌+◌, ◌≤◌, ◌<◌}
 use native.Mathlib.Numerals.{add-one}
 use native.Mathlib.Omega.{arith}
-use lib.ListN.{length, take, get_or, set, length_set}
+use lib.ListN.{length, take, get_or, set, length-set}
 use lib.Seq.{take-suc, take-suc-set}
 use Rattle.board.specs.Limits.{max_duties}
 use Rattle.troubles.specs.declared.setting.Setter.{Setter}
@@ -31,7 +31,7 @@ module _ {setters : List Setter} {m : ℕ} where
       record {
         few = known.few;
         some = omega arith;
-        long = length_set users k user ∙ known.long;
+        long = length-set users k user ∙ known.long;
         are =
             rw
             (add-one k, take-suc-set users k user inside.0, take-suc setters k z inside.1, known.are)

@@ -5,7 +5,7 @@ use mathlib.Core.Bool.{Bool, true, false, ◌&&◌}
 use Prim.Native.Nat.{ℕ, ◌≤◌, ◌<◌}
 use lib.Bits.{bit_and, bit_or}
 use lib.Dec.{eqb, ltb}
-use borrow.Author.Tests.{lt_ltb, le-ltb, eq-eqb, ne_eqb}
+use borrow.Author.Tests.{lt-ltb, le-ltb, eq-eqb, ne_eqb}
 use Rattle.board.specs.declared.Duty.{Duty}
 use Rattle.board.specs.Windows.{wholly_before}
 use Rattle.troubles.specs.declared.setting.Setter.{Setter}
@@ -63,5 +63,5 @@ module _ {x g : Setter} (y h : Duty) (is_x : x ≡ setter_of y) (is_g : g ≡ se
   sooner u w n l =
       let mended : mends_later y h ≡ true =
       in_numbers_lem
-      ∙ rw (lt_ltb x.end g.start w, eq-eqb g.user x.user u, ne_eqb in_common 0 n) in
-      rw (mended, lt_ltb h.end best (rw is_g at l)) (ap (λ (s : Setter). s.end) is_g)
+      ∙ rw (lt-ltb x.end g.start w, eq-eqb g.user x.user u, ne_eqb in_common 0 n) in
+      rw (mended, lt-ltb h.end best (rw is_g at l)) (ap (λ (s : Setter). s.end) is_g)

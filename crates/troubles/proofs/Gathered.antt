@@ -6,7 +6,7 @@ use mathlib.Core.List.{List, [], ◌∷◌, map, map-append}
 use Prim.Native.Nat.{ℕ, ◌+◌, ◌≤◌, ◌<◌}
 use native.Mathlib.Numerals.{add-one}
 use native.Mathlib.Omega.{arith}
-use lib.ListN.{length, take, get_or, set, length_set}
+use lib.ListN.{length, take, get_or, set, length-set}
 use lib.Seq.{take-suc-set}
 use Rattle.orders.specs.Lists.{keep}
 use Rattle.pool.proofs.ClosedUp.{keep_one, keep_none}
@@ -31,7 +31,7 @@ module _ {A B : Type 0} {p : A → Bool} {f : A → B} {room : ℕ} {l : List A}
         let fits : count < length out = omega arith in
         record {
           few = omega arith;
-          long = length_set out count x ∙ known.long;
+          long = length-set out count x ∙ known.long;
           are =
               rw
               (add-one count, take-suc-set out count x fits, known.are, keep_one p l i d h t, e)

@@ -6,7 +6,7 @@ use mathlib.Core.List.{List}
 use Prim.Native.Nat.{ℕ, ◌≤◌, ◌<◌}
 use lib.Bits.{bit_or, bit_xor}
 use lib.Dec.{eqb, ltb}
-use borrow.Author.Tests.{lt_ltb, le-ltb, eq-eqb, ne_eqb}
+use borrow.Author.Tests.{lt-ltb, le-ltb, eq-eqb, ne_eqb}
 use Rattle.orders.proofs.Tests.{clash, and_yes, or_false}
 use Rattle.roles.specs.Roles.{with_role}
 use Rattle.asks.specs.declared.Ask.{Ask}
@@ -59,12 +59,12 @@ module _
         (not (ltb (first_mend y last_minute l) d.start)))
 
     pub wholly_later : d.end < x.start → false ≡ makes_wrong l d ask y
-    wholly_later h = rw (in_numbers_lem, lt_ltb d.end x.start h, and_false (against x d ask actor))
+    wholly_later h = rw (in_numbers_lem, lt-ltb d.end x.start h, and_false (against x d ask actor))
 
     pub mended : mend < d.start → false ≡ makes_wrong l d ask y
     mended h =
         rw
-        (in_numbers_lem, lt_ltb mend d.start h)
+        (in_numbers_lem, lt-ltb mend d.start h)
         (sym (and_false (against x d ask actor && not (ltb d.end x.start))))
 
     abbrev set_against : Bool
@@ -153,7 +153,7 @@ module _ {x : Setter} (d : Duty) (ask : Ask) (reach : Reach) (y : Duty) (is_x : 
 
   module _ (h : x.end < d.start) where
     reached : with_sets x d ask reach ≡ reach_with d ask reach y
-    reached = rw (in_sets, lt_ltb x.end d.start h)
+    reached = rw (in_sets, lt-ltb x.end d.start h)
 
     abbrev own : ℕ
     own = bit_or reach.own x.grants

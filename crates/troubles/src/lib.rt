@@ -2,6 +2,8 @@
 // over the duties that set a holding tells whether each need of d is right now or set right by some duty
 // wholly before it (a), and whether another duty x, that d is not wholly before, makes a need of d wrong,
 // with no duty between the two that mends it (b).
+#![tactic(auto)]
+
 mod pairs;
 mod setting;
 

@@ -7,7 +7,7 @@ use Prim.Native.Nat.{ℕ, ◌<◌}
 use native.Mathlib.Omega.{arith}
 use lib.Bits.{bit_or, or_lt, or_add_and, and_le_l, and_le_r}
 use lib.Dec.{ltb, leb}
-use borrow.Author.Tests.{ltb-true, leb-true, lt_ltb, le-leb}
+use borrow.Author.Tests.{ltb-true, leb-true, lt-ltb, le-leb}
 use Rattle.orders.proofs.Tests.{same_test, and_left, and_right, and_true, and_both, and_yes}
 use Rattle.board.specs.declared.Permission.{Permission}
 use Rattle.board.specs.Good.{permission_fits, permission_below}
@@ -48,8 +48,8 @@ module _ (roles : ℕ) where
       let most = ltb-true p.action actions u.0 in
       let h = ltb-true p.object objects u.1 in
       and_both (own p) _ (and_both (ltb p.role roles) _ r.0 u.1)
-      (and_both (ltb below_all (key p)) _ (lt_ltb below_all (key p) (omega arith))
-      (lt_ltb (key p) above_all (omega arith))))
+      (and_both (ltb below_all (key p)) _ (lt-ltb below_all (key p) (omega arith))
+      (lt-ltb (key p) above_all (omega arith))))
       (λ e.
       let r = and_true (own p) _ e in
       let s = and_true (ltb p.role roles) (ltb p.object objects) r.0 in
@@ -59,7 +59,7 @@ module _ (roles : ℕ) where
       let most = ltb-true (key p) above_all u.1 in
       and_both (ltb p.role roles) _ s.0
       (and_both (leb 2 p.action) _ (le-leb 2 p.action (omega arith))
-      (and_both (ltb p.action actions) _ (lt_ltb p.action actions (omega arith)) s.1)))
+      (and_both (ltb p.action actions) _ (lt-ltb p.action actions (omega arith)) s.1)))
 
   pub order :
       (p q : Permission) → own p ≡ true → own q ≡ true → permission_below p q ≡ ltb (key p) (key q)
@@ -99,11 +99,11 @@ module _ (roles : ℕ) where
       let h = ltb-true (bit_or a b) objects e in
       let sum = or_add_and a b in
       and_both (ltb a objects) _
-      (lt_ltb a objects (omega (arith, and_le_r a b)))
-      (lt_ltb b objects (omega (arith, and_le_l a b))))
+      (lt-ltb a objects (omega (arith, and_le_r a b)))
+      (lt-ltb b objects (omega (arith, and_le_l a b))))
       (λ e.
       let r = and_true (ltb a objects) (ltb b objects) e in
-      lt_ltb (bit_or a b) objects (or_lt 8 a b (ltb-true a objects r.0) (ltb-true b objects r.1)))
+      lt-ltb (bit_or a b) objects (or_lt 8 a b (ltb-true a objects r.0) (ltb-true b objects r.1)))
 
   scanned :
       (previous seen : ℕ) (l : List Permission)

@@ -6,7 +6,7 @@ use mathlib.Core.List.{List, [], ◌∷◌}
 use Prim.Native.Nat.{ℕ, ◌≤◌, ◌<◌}
 use native.Mathlib.Omega.{arith}
 use lib.Dec.{ltb}
-use borrow.Author.Tests.{ltb-true, lt_ltb}
+use borrow.Author.Tests.{ltb-true, lt-ltb}
 use Rattle.orders.specs.Lists.{all}
 use Rattle.orders.proofs.Tests.{and_true, and_both, same_test}
 use Rattle.board.specs.Good.{next_above, rising}
@@ -66,8 +66,8 @@ module _ {A : Type 0} {t : Tests A} (k : Keys t) where
       let s = and_true (k.own x) (ltb previous (k.key x)) r.0 in
       let above : previous < k.key x = ltb-true previous (k.key x) s.1 in
       let rest = fits_all (k.key x) l (omega arith) r.1 in
-      let low = lt_ltb k.low (k.key x) (omega arith) in
-      let between = and_both (ltb k.low (k.key x)) _ low (lt_ltb (k.key x) k.high rest.1) in
+      let low = lt-ltb k.low (k.key x) (omega arith) in
+      let between = and_both (ltb k.low (k.key x)) _ low (lt-ltb (k.key x) k.high rest.1) in
       let fits = k.fit x ∙ and_both (k.own x) _ s.0 between in
       let above_one = next_above_lem x l s.0 r.1 in (
         (
@@ -88,7 +88,7 @@ module _ {A : Type 0} {t : Tests A} (k : Keys t) where
   unfolding after
   after_first [] e = refl
   after_first (x ∷ l) e =
-      lt_ltb k.low (k.key x) (parts x (and_true (t.fits x) (all t.fits l) e).0).1.0
+      lt-ltb k.low (k.key x) (parts x (and_true (t.fits x) (all t.fits l) e).0).1.0
 
   after_one_lem :
       (x : A) (l : List A) → k.own x ≡ true → all t.fits l ≡ true → next_above t.below x l ≡ true
@@ -102,7 +102,7 @@ module _ {A : Type 0} {t : Tests A} (k : Keys t) where
       (previous : ℕ) (l : List A) → previous < k.high → all t.fits l ≡ true → rising t.below l ≡ true
       → after previous l ≡ true → climbs k previous l ≡ true
   unfolding scan after
-  climbs_all previous [] h e f g = lt_ltb previous k.high h
+  climbs_all previous [] h e f g = lt-ltb previous k.high h
   climbs_all previous (x ∷ l) h e f g =
       let r = and_true (t.fits x) (all t.fits l) e in
       let s = and_true (next_above t.below x l) (rising t.below l) f in

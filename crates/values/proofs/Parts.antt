@@ -11,7 +11,7 @@ use native.Mathlib.Omega.{arith}
 use lib.Dec.{eqb, ltb}
 use lib.ListN.{length, get_or, take, drop, drop_of_length-le}
 use lib.Seq.{drop-cons}
-use borrow.Author.Tests.{ltb-true, ltb-false, ne_eqb, not_true, not_false}
+use borrow.Author.Tests.{ltb-true, ltb-false, ne_eqb, not-true, not-false}
 use Rattle.orders.specs.Lists.{all}
 use Rattle.orders.proofs.Tests.{by_test, or_right}
 use Rattle.board.specs.Good.{next_above, rising}
@@ -97,7 +97,7 @@ module _ {A : Type 0} {t : Tests A} {count size : ℕ} {l : List A} {i : ℕ} {p
         sized = known.sized;
         tells =
             known.tells ∙ further t count l i previous z (rw known.sized h)
-            ∙ rw (sym e ∙ not_false r passed);
+            ∙ rw (sym e ∙ not-false r passed);
       }
 
   pub fails :
@@ -105,7 +105,7 @@ module _ {A : Type 0} {t : Tests A} {count size : ℕ} {l : List A} {i : ℕ} {p
       → r ≡ place t count i previous (get_or l i z) → not r ≡ true → false ≡ part_good t count l
   fails z {r} known h e failed =
       sym
-      (known.tells ∙ further t count l i previous z (rw known.sized h) ∙ rw (sym e ∙ not_true r failed))
+      (known.tells ∙ further t count l i previous z (rw known.sized h) ∙ rw (sym e ∙ not-true r failed))
 
   pub at_end : RestTells t count size l i previous → size ≤ i → true ≡ part_good t count l
   at_end known h =

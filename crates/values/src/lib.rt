@@ -1,4 +1,6 @@
 // The test of a whole board value, part by part: one that fails it gets answer 19.
+#![tactic(auto)]
+
 ghost use Rattle.std.specs.Prelude.{◌≡◌, ◌<◌};
 ghost use Rattle.board.specs.Good as g;
 ghost use Rattle.values.specs.Places.{place, part_good, permission_climbs, duty_climbs};

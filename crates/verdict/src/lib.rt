@@ -1,5 +1,7 @@
 // The verdict on a board: green exactly if in every order that the windows allow, and at each step, the next
 // duty is permitted; red comes with an order that fails.
+#![tactic(auto)]
+
 ghost use Rattle.std.specs.Prelude.{◌≡◌, true, ◌≤◌, length};
 ghost use Rattle.board.specs.Good.{good};
 ghost use Rattle.board.specs.Limits.{max_duties};

@@ -1,4 +1,6 @@
 // Windows and the clock. Windows include both ends.
+#![tactic(auto)]
+
 ghost use Rattle.std.specs.Prelude.{◌≡◌};
 ghost use Rattle.board.specs.Windows.{window_fits, wholly_before, in_window, is_over};
 

@@ -1,4 +1,6 @@
 // Withdraw a duty from the live board, by value.
+#![tactic(auto)]
+
 ghost use Rattle.board.specs.Answers.{Answers};
 ghost use Rattle.outcomes.specs.Outcomes.{Flagged};
 ghost use Rattle.withdraw.specs.Withdraws.{withdraw_earlier, Withdraws};

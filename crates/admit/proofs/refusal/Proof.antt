@@ -9,7 +9,7 @@ use native.Mathlib.Omega.{arith}
 use lib.ListN.{length, drop}
 use lib.Seq.{length-take-le}
 use borrow.Author.Rules.{rules}
-use borrow.Author.Tests.{eqb-true, eqb_false}
+use borrow.Author.Tests.{eqb-true, eqb-false}
 use Rattle.orders.proofs.Tests.{clash, not_true, not_false}
 use Rattle.board.specs.After.{with_serial}
 use Rattle.board.specs.Answers.{Check, Answers}
@@ -118,7 +118,7 @@ else1 c =
 past7 : (c : tie.Else7) → Past (start7 c) 7
 past7 c n a =
     let six = c.before in
-    past6 six n (inr (λ e. eqb_false _ _ c.if7.false (sym (counted (else1 six)) ∙ e), a))
+    past6 six n (inr (λ e. eqb-false _ _ c.if7.false (sym (counted (else1 six)) ∙ e), a))
 
 abbrev start8 : tie.Else8 → tie.Start
 start8 c = start7 c.before.before

@@ -5,7 +5,7 @@ use mathlib.Core.Path.{◌≡◌, sym, ◌∙◌}
 use mathlib.Core.List.{◌++◌}
 use Prim.Native.Nat.{◌-◌, ◌^◌, ◌≤◌, ◌<◌}
 use native.Mathlib.Omega.{arith}
-use lib.ListN.{length, drop, set, length-drop, length_set}
+use lib.ListN.{length, drop, set, length-drop, length-set}
 use lib.Seq.{take_all}
 use borrow.Author.Rules.{rules}
 use Rattle.line.specs.Line.{digits, max_digits, decimal}
@@ -45,7 +45,7 @@ loop-again c =
     let left = fewer_left l.at l.rest c.before.loop-test.true l.invariant.2 in
     let room : l.at ≤ length l.text = omega arith in
     let more = one_digit_more l.text l.rest l.at l.invariant.0 room (omega arith) in
-    (left.0, omega arith, left.1, rw length_set l.invariant.3, rw c.digit.ensures (more ∙ l.invariant.4))
+    (left.0, omega arith, left.1, rw length-set l.invariant.3, rw c.digit.ensures (more ∙ l.invariant.4))
 
 sub-at-2 : tie.Need-overflow-sub-at-2 invariant-loop decreases-loop
 sub-at-2 c = search rules
@@ -57,7 +57,7 @@ slice-write-text-2 : tie.Need-slice-write-text-2 invariant-loop decreases-loop
 slice-write-text-2 c = search rules
 
 same_length : tie.Need-same-length invariant-loop decreases-loop
-same_length c = rw length_set (c.before.before.loop.invariant.3 ∙ sym c.before.before.before.before.requires)
+same_length c = rw length-set (c.before.before.loop.invariant.3 ∙ sym c.before.before.before.before.requires)
 
 returns : tie.Need-returns invariant-loop decreases-loop
 returns c =
@@ -65,7 +65,7 @@ returns c =
     let room : l.at ≤ length l.text = omega arith in
     let one = only_digit l.text l.rest l.at l.invariant.0 room (omega arith) in
     let written = drop (l.at - 1) (set l.text (l.at - 1) c.digit2.result) in
-    let all : length written ≤ max_digits - (l.at - 1) = simp (length-drop, length_set) (omega arith) in
+    let all : length written ≤ max_digits - (l.at - 1) = simp (length-drop, length-set) (omega arith) in
     (omega arith, take_all (max_digits - (l.at - 1)) written all ∙ rw c.digit2.ensures (one ∙ l.invariant.4))
 
 pub spell-spec : {M : Type 1} → statement M

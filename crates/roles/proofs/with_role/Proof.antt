@@ -2,7 +2,7 @@
 use Prim.Native.Nat.{◌<◌}
 use native.Mathlib.Omega.{arith}
 use borrow.Author.Rules.{rules}
-use borrow.Author.Tests.{lt_ltb, le-ltb}
+use borrow.Author.Tests.{lt-ltb, le-ltb}
 use Rattle.roles.specs.Roles.{width, with_role}
 use Rattle.roles.proofs.Laws.{shifted}
 use Rattle.roles.proofs.with_role.Statement.{statement}
@@ -16,7 +16,7 @@ unfolding with_role
 returns c =
     let role = c.before.args.role in
     let fits : role < width = omega arith in
-    rw (lt_ltb role width fits, shifted role fits)
+    rw (lt-ltb role width fits, shifted role fits)
 
 returns-2 : tie.Need-returns-2
 unfolding with_role

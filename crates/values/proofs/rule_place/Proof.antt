@@ -1,5 +1,5 @@
 -- `values::rule_place` meets its contract: the two branches are those of `place`.
-use borrow.Author.Tests.{lt_ltb, le-ltb}
+use borrow.Author.Tests.{lt-ltb, le-ltb}
 use borrow.Author.Rules.{rules}
 use Rattle.values.proofs.rule_place.Statement.{statement}
 use Rattle.values.proofs.rule_place.Tie as tie
@@ -16,7 +16,7 @@ is-no-rule-requires c κs = search rules
 returns : tie.Need-returns
 returns c =
     rw (
-      lt_ltb _ _ c.before.before.if1.true,
+      lt-ltb _ _ c.before.before.if1.true,
       c.before.rule-fits.ensures,
       c.rule-below.ensures,
     )

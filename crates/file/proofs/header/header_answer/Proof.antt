@@ -6,7 +6,7 @@ use mathlib.Core.List.{List}
 use Prim.Native.Nat.{ℕ}
 use native.Mathlib.Omega.{arith}
 use lib.ListN.{drop}
-use borrow.Author.Tests.{not_true, not_false}
+use borrow.Author.Tests.{not-true, not-false}
 use Rattle.orders.proofs.Tests.{clash}
 use Rattle.board.specs.Answers.{Check, Answers}
 use Rattle.file.specs.Reads.{header_checks}
@@ -15,10 +15,10 @@ use Rattle.file.proofs.header.header_answer.Statement.{statement}
 use Rattle.file.proofs.header.header_answer.Tie as tie
 
 failed : {result test : Bool} → result ≡ test → not result ≡ true → test ≡ false
-failed {result} e n = sym e ∙ not_true result n
+failed {result} e n = sym e ∙ not-true result n
 
 passed : {result test : Bool} → result ≡ test → not result ≡ false → test ≡ false → ⊥
-passed {result} e n f = clash (sym e ∙ not_false result n) f
+passed {result} e n f = clash (sym e ∙ not-false result n) f
 
 -- the checks from one on
 abbrev fromCount : List ℕ → List Check
