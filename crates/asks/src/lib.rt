@@ -17,7 +17,7 @@ use board::{Board, Duty, Permission, Rule, What};
 
 // What is asked, in one form: whether there is a permission or rule; the role that the doer is to hold; and
 // of whom the wanted and the barred roles are asked.
-#[derive(Drop)]
+#[derive(Clone, Copy)]
 pub struct Ask {
     pub ruled: bool,
     pub actor: u16,

@@ -4,7 +4,7 @@ use mathlib.Core.Path.{◌≡◌, sym, ◌∙◌}
 use mathlib.Core.Logic.{◌↔◌, ⊎_elim}
 use mathlib.Core.Bool.{Bool, true, false, ◌&&◌}
 use mathlib.Core.Option.{Option, none, some}
-use mathlib.Core.List.{List, ◌∷◌}
+use mathlib.Core.List.{List, [], ◌∷◌}
 use Prim.Native.Nat.{ℕ}
 use lib.Dec.{eqb}
 use borrow.Author.Tests.{eqb-true, eq-eqb}
@@ -22,6 +22,7 @@ use Rattle.board.proofs.GoodLaws.{records→range}
 one_of :
     {A : Type 0} (R : A → A → Type 0) (l : List A) → Pairwise R l → {x y : A} → Mem x l → Mem y l
     → (R x y → ⊥) → (R y x → ⊥) → x ≡ y
+one_of {A = A} R [] h {x = x} {y = y} x7 _ f g = elim x7 [ ]
 one_of R (z ∷ l) h (here p) (here q) f g = p ∙ sym q
 one_of R (z ∷ l) h {y = y} (here p) (there n) f g = absurd (f (rw p (h.0 y n)))
 one_of R (z ∷ l) h {x} (there m) (here q) f g = absurd (g (rw q (h.0 x m)))

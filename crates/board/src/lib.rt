@@ -7,11 +7,11 @@ ghost use Rattle.board.specs.Answers.{plain_answer, done_answer, written_answer,
 ghost use Rattle.board.specs.Filler.{no_permission, no_rule, no_duty, smallest_board};
 
 // A duty is called by its serial and never by its place in the pool.
-#[derive(Drop)]
+#[derive(Clone, Copy)]
 pub struct Serial(pub u32);
 
 // What is to be done.
-#[derive(Drop)]
+#[derive(Clone, Copy)]
 pub enum What {
     Grant { target: u16, role: u16 },
     Revoke { target: u16, role: u16 },
@@ -19,7 +19,7 @@ pub enum What {
 }
 
 // A duty: who is to do what, from start to end.
-#[derive(Drop)]
+#[derive(Clone, Copy)]
 pub struct Duty {
     pub serial: Serial,
     pub doer: u16,
@@ -29,7 +29,7 @@ pub struct Duty {
 }
 
 // A use of the action on the object needs the role.
-#[derive(Drop)]
+#[derive(Clone, Copy)]
 pub struct Permission {
     pub role: u16,
     pub action: u16,
@@ -38,7 +38,7 @@ pub struct Permission {
 
 // Who holds the actor role may assign (kind 0) or revoke (kind 1) the role for a target that holds every
 // wanted role and no barred one.
-#[derive(Drop)]
+#[derive(Clone, Copy)]
 pub struct Rule {
     pub kind: u16,
     pub actor: u16,
@@ -49,7 +49,7 @@ pub struct Rule {
 
 // What something to be done asks of the holdings: no permission or rule is there for it; the doer is to hold
 // a role; or doer and target are to meet a rule.
-#[derive(Drop)]
+#[derive(Clone, Copy)]
 pub enum Asked {
     Unruled,
     Role(u16),
@@ -57,7 +57,7 @@ pub enum Asked {
 }
 
 // How many there are of each. Room beyond a count holds the filler.
-#[derive(Drop)]
+#[derive(Clone, Copy)]
 pub struct Counts {
     pub users: u16,
     pub roles: u16,
@@ -66,7 +66,7 @@ pub struct Counts {
     pub duties: u16,
 }
 
-#[derive(Drop)]
+#[derive(Clone, Copy)]
 pub struct Board {
     pub counts: Counts,
     pub clock: u32,
@@ -171,7 +171,7 @@ impl Board {
 
 // What a call answers: its number, the serial of a duty that was admitted (else 0), and the length of what
 // stands at the start of the lent list or buffer: a failing order, or a saved file (0 where there is none).
-#[derive(Drop)]
+#[derive(Clone, Copy)]
 pub struct Answer {
     pub number: u8,
     pub serial: Serial,

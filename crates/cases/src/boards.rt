@@ -16,7 +16,7 @@ const NOTHING: u32 = 0;
 const ROLE_1: u32 = 2;
 
 // A duty: who is to do what, from start to end.
-#[derive(Drop)]
+#[derive(Clone, Copy)]
 struct Planned {
     pub doer: u16,
     pub action: u16,
@@ -28,7 +28,7 @@ struct Planned {
 
 // A small board: what user 1 holds; how many roles there are (with a third one comes its rule); and the
 // duties, the first so many of three.
-#[derive(Drop)]
+#[derive(Clone, Copy)]
 pub(crate) struct Small {
     pub held: u32,
     pub roles: u8,

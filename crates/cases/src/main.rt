@@ -130,7 +130,7 @@ fn open_all(lent: bool) -> u32 {
 // ---- calls in turn
 
 // The board after a step, and how many differences there were so far.
-#[derive(Drop)]
+#[derive(Clone, Copy)]
 struct Turn {
     pub board: Board,
     pub differences: u32,

@@ -5,7 +5,7 @@ use board::{Answer, Serial};
 use requests::{RequestAct, RequestAdmit, RequestDo, RequestWithdraw};
 
 // What a step asks for.
-#[derive(Drop)]
+#[derive(Clone, Copy)]
 pub(crate) enum Ask {
     Admit(RequestAdmit),
     Act(RequestAct),
@@ -14,14 +14,14 @@ pub(crate) enum Ask {
 }
 
 // A step and what document 01 says of it.
-#[derive(Drop)]
+#[derive(Clone, Copy)]
 pub(crate) struct Step {
     pub ask: Ask,
     pub wanted: Wanted,
 }
 
 // A case: its number, the file that it starts from, and how many steps it has.
-#[derive(Drop)]
+#[derive(Clone, Copy)]
 pub(crate) struct Case {
     pub number: u8,
     pub file: u8,

@@ -2,7 +2,7 @@
 use board::Answer;
 
 // The answer, what user 1 holds from then on, and how many duties are open.
-#[derive(Drop)]
+#[derive(Clone, Copy)]
 pub(crate) struct Told {
     pub answer: Answer,
     pub held: u32,
@@ -10,7 +10,7 @@ pub(crate) struct Told {
 }
 
 // The same as document 01 says it, with the failing order.
-#[derive(Drop)]
+#[derive(Clone, Copy)]
 pub(crate) struct Wanted {
     pub number: u8,
     pub serial: u32,

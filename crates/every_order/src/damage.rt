@@ -37,7 +37,7 @@ fn change_field(s: &mut [u8], at: u32, which: u8) {
 }
 
 // Where the record before one of a part stands, and where that one stands.
-#[derive(Drop)]
+#[derive(Clone, Copy)]
 struct Two {
     before: u32,
     at: u32,

@@ -37,7 +37,7 @@ const MARK: u32 = 4294967295;
 // ---- what the program finds
 
 // The number of a file, how many orders were walked, and the set of shortcuts that give another verdict.
-#[derive(Drop)]
+#[derive(Clone, Copy)]
 struct Found {
     number: u8,
     orders: u32,
@@ -86,7 +86,7 @@ fn find(s: &[u8]) -> Found {
 
 // The answer's number, its serial, the length of the failing order, and whether the board given back is
 // right.
-#[derive(Drop)]
+#[derive(Clone, Copy)]
 struct Told {
     number: u8,
     serial: u32,
@@ -164,7 +164,7 @@ fn compared_in(buffer: &[u8], length: u32) -> Outcome {
 // ---- all files
 
 // The counts of the boards as made, and of the damaged files.
-#[derive(Drop)]
+#[derive(Clone, Copy)]
 struct Tallies {
     made: Tally,
     damaged: Tally,

@@ -24,7 +24,7 @@ fn wide(x: u8) -> u32
 
 // The first user and the first role that duties are about, how many of each there are from these on, and how
 // many permissions, rules and duties.
-#[derive(Drop)]
+#[derive(Clone, Copy)]
 struct Counts {
     user: u8,
     role: u8,
@@ -272,7 +272,7 @@ fn put_rights(s: &mut [u8], board: u32, n: Counts) {
 // ---- windows
 
 // The first and the last minute of a duty.
-#[derive(Drop)]
+#[derive(Clone, Copy)]
 struct Window {
     start: u32,
     end: u32,

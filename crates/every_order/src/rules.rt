@@ -42,7 +42,7 @@ pub(crate) fn has(set: u32, number: u32) -> bool {
 // ---- holdings
 
 // The set of roles of each user.
-#[derive(Drop)]
+#[derive(Clone, Copy)]
 pub(crate) struct Held {
     pub sets: [u32; 64],
 }
@@ -77,7 +77,7 @@ fn with_set(held: Held, user: u32, set: u32) -> Held {
 // ---- what is to be done
 
 // The doer, the action, and target and role, or object and 0.
-#[derive(Drop)]
+#[derive(Clone, Copy)]
 pub(crate) struct Act {
     pub doer: u32,
     pub action: u32,
@@ -189,7 +189,7 @@ pub(crate) fn matters(held: Held, act: Act) -> bool {
 // ---- orders
 
 // A point in an order: the duties done before it, as a set, and the holdings then.
-#[derive(Drop)]
+#[derive(Clone, Copy)]
 pub(crate) struct Point {
     pub done: u32,
     pub held: Held,

@@ -5,7 +5,7 @@ use crate::walk::plus;
 // What was met on a file: the number that the program itself finds, how many orders it walked, the length of
 // the failing order that the board told, the set of shortcuts that would be wrong, and whether the board is
 // right.
-#[derive(Drop)]
+#[derive(Clone, Copy)]
 pub(crate) struct Outcome {
     pub number: u8,
     pub orders: u32,
@@ -15,7 +15,7 @@ pub(crate) struct Outcome {
 }
 
 // The counts so far: of each number, of each shortcut, and the rest.
-#[derive(Drop)]
+#[derive(Clone, Copy)]
 pub(crate) struct Tally {
     pub numbers: [u32; 9],
     pub shortcuts: [u32; 7],

@@ -3,7 +3,7 @@ use crate::bytes::two;
 use crate::rules::{Point, may_come_next, next, permitted_at, start};
 
 // What a walk met: how many orders, and how many of them got stuck at a duty that is not permitted.
-#[derive(Drop)]
+#[derive(Clone, Copy)]
 pub(crate) struct Met {
     pub orders: u32,
     pub stuck: u32,

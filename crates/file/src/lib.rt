@@ -16,7 +16,7 @@ use parts::first_fault;
 use reads::board_of;
 
 // What reading a file gives: an answer number, and the board (the smallest, where the file is refused).
-#[derive(Drop)]
+#[derive(Clone, Copy)]
 pub struct Reading {
     pub number: u8,
     pub board: Board,

@@ -12,7 +12,7 @@ use board::{Answer, Board};
 use requests::{RequestAct, RequestAdmit, RequestDo, RequestWithdraw};
 
 // What a lent call answered, and the board that it left.
-#[derive(Drop)]
+#[derive(Clone, Copy)]
 pub struct Left {
     pub answer: Answer,
     pub board: Board,

@@ -7,7 +7,7 @@ ghost use Rattle.open.specs.Opens.{Opens, refused_open};
 use board::{Answer, Board};
 
 // What opening a file gives: the answer, and the board (the smallest, where the file is refused).
-#[derive(Drop)]
+#[derive(Clone, Copy)]
 pub struct Opened {
     pub answer: Answer,
     pub board: Board,

@@ -9,7 +9,7 @@ use board::{Answer, Board, Serial};
 
 // The answer, whether the call was accepted, and the board: the one after the call, or where it is refused
 // the one given.
-#[derive(Drop)]
+#[derive(Clone, Copy)]
 pub struct Outcome {
     pub answer: Answer,
     pub accepted: bool,

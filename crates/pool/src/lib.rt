@@ -14,14 +14,14 @@ ghost use Rattle.pool.specs.Found.{found};
 use board::{Board, Duty, Serial};
 
 // A duty that was looked for, or none.
-#[derive(Drop)]
+#[derive(Clone, Copy)]
 pub enum Found {
     Open(Duty),
     Missing,
 }
 
 // Duties at the start of the room, their number, and filler in the rest.
-#[derive(Drop)]
+#[derive(Clone, Copy)]
 pub struct Rest {
     pub duties: [Duty; Board::DUTIES],
     pub count: u16,

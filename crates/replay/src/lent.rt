@@ -16,7 +16,7 @@ const FIRST: u32 = 4000000000;
 
 // Whether each entry and byte that a call may not write was kept in every call so far, or the first record
 // where not.
-#[derive(Drop)]
+#[derive(Clone, Copy)]
 pub(crate) enum Lists {
     Kept,
     Changed(usize),

@@ -14,7 +14,7 @@ use text::{ROOM, put, write_out};
 
 // The live board, where the next byte of the text goes, and whether the lent lists and buffers were
 // kept so far.
-#[derive(Drop)]
+#[derive(Clone, Copy)]
 struct Live {
     pub board: Board,
     pub here: usize,

@@ -110,7 +110,7 @@ fn put_holdings(out: &mut [u8; ROOM], at: usize, board: Board) -> usize {
 }
 
 // What is to be done, as an action, a first and a second number.
-#[derive(Drop)]
+#[derive(Clone, Copy)]
 struct Doing {
     pub action: u16,
     pub first: u16,

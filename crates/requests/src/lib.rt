@@ -8,7 +8,7 @@ ghost use Rattle.requests.specs.Requests.{doing_fits};
 use board::{Counts, Serial};
 
 // Admit: a duty to be added.
-#[derive(Drop)]
+#[derive(Clone, Copy)]
 pub struct RequestAdmit {
     pub doer: u16,
     pub action: u16,
@@ -20,7 +20,7 @@ pub struct RequestAdmit {
 }
 
 // Act: something to be done now.
-#[derive(Drop)]
+#[derive(Clone, Copy)]
 pub struct RequestAct {
     pub doer: u16,
     pub action: u16,
@@ -30,14 +30,14 @@ pub struct RequestAct {
 }
 
 // Do: an open duty to be done now.
-#[derive(Drop)]
+#[derive(Clone, Copy)]
 pub struct RequestDo {
     pub serial: Serial,
     pub clock: u32,
 }
 
 // Withdraw: an open duty to be taken off the board.
-#[derive(Drop)]
+#[derive(Clone, Copy)]
 pub struct RequestWithdraw {
     pub serial: Serial,
     pub clock: u32,

@@ -34,7 +34,7 @@ pub const WALK: u16 = 6;
 pub const POKE: u16 = 9;
 
 // A record: a kind and its fields.
-#[derive(Drop)]
+#[derive(Clone, Copy)]
 pub struct Record {
     pub kind: u16,
     pub lent: u16,

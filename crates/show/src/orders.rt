@@ -6,7 +6,7 @@ use board::{Board, Serial};
 pub(crate) const MOST_LINES: u32 = 5000;
 
 // The duties done so far, told by their serials.
-#[derive(Drop)]
+#[derive(Clone, Copy)]
 pub(crate) struct Order {
     pub serials: [u32; plain::MOST],
     pub length: usize,

@@ -11,7 +11,7 @@ use asks::Ask;
 use board::{Board, Duty, Serial};
 
 // How far a walk through duties has come: how many serials are written, and whether a duty was not permitted.
-#[derive(Drop)]
+#[derive(Clone, Copy)]
 struct Progress {
     pub length: usize,
     pub stuck: bool,

@@ -17,7 +17,7 @@ use setting::{LAST_MINUTE, mends_of, setters_of, users_of};
 
 // What makes a board red: the serial of the duty that gets stuck, and of the one that spoils it (the same,
 // where the duty cannot be met at all).
-#[derive(Drop)]
+#[derive(Clone, Copy)]
 pub enum Trouble {
     Nothing,
     Found { spoiler: Serial, stuck: Serial },

@@ -13,7 +13,7 @@ use board::Duty;
 
 // What the duties wholly before one can make of the sets of two users: the doer's and the target's with every
 // role that they grant, and the target's without every role that they revoke.
-#[derive(Drop)]
+#[derive(Clone, Copy)]
 pub(crate) struct Reach {
     pub own: u32,
     pub most: u32,

@@ -14,7 +14,7 @@ pub(crate) const LAST_MINUTE: u32 = 4294967295;
 
 // A duty that sets a holding, in numbers: whom it sets, the role that it grants or revokes as a set, and its
 // window. With the spare number it has no gap in memory, so that room for many is cleared at once.
-#[derive(Drop)]
+#[derive(Clone, Copy)]
 pub(crate) struct Setter {
     pub serial: Serial,
     pub user: u16,
@@ -26,7 +26,7 @@ pub(crate) struct Setter {
 }
 
 // The duties that set a holding, at the start of the room, and their number.
-#[derive(Drop)]
+#[derive(Clone, Copy)]
 pub(crate) struct Setters {
     pub all: [Setter; Board::DUTIES],
     pub count: usize,
