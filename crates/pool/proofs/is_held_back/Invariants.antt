@@ -1,0 +1,24 @@
+-- `is_held_back` is right: none of the first i duties is wholly before d; at the end they are the first n.
+use mathlib.Core.Path.{◌≡◌, refl, sym, ◌∙◌}
+use mathlib.Core.Bool.{Bool, false}
+use Prim.Native.Nat.{◌-◌, ◌≤◌, ◌<◌, min}
+use native.Mathlib.Omega.{arith}
+use lib.ListN.{length, take}
+use borrow.Author.Rules.{rules}
+use Rattle.orders.specs.Lists.{any}
+use Rattle.orders.proofs.Loops.{none_next, some_at}
+use Rattle.board.specs.declared.Duty.{Duty}
+use Rattle.board.specs.Limits.{max_duties}
+use Rattle.board.specs.Windows.{wholly_before}
+use Rattle.pool.proofs.Turns.{in_turn, at_end, same_first}
+use Rattle.pool.proofs.is_held_back.Given as goal
+
+-- y is wholly before d
+abbrev pub holdsBack : Duty → Duty → Bool
+holdsBack d y = wholly_before y d
+
+abbrev pub invariant-loop-i : goal.invariant-loop-i
+invariant-loop-i l = (l.i ≤ l.n) × (any (holdsBack l.d) (take l.i l.duties) ≡ false)
+
+abbrev pub decreases-loop-i : goal.decreases-loop-i
+decreases-loop-i l = l.n - l.i
