@@ -1,7 +1,6 @@
 -- `by_permission` is right: the test tells whether the one permission is found.
 use mathlib.Core.Path.{◌≡◌}
 use mathlib.Core.Bool.{true, false}
-use borrow.Author.Rules.{rules}
 use Rattle.board.specs.Permitted.{is_for}
 use Rattle.asks.proofs.by_permission.Goals as goal
 

@@ -1,7 +1,6 @@
 -- `by_rule` is right: the test tells whether the one rule is found.
 use mathlib.Core.Path.{◌≡◌}
 use mathlib.Core.Bool.{true, false}
-use borrow.Author.Rules.{rules}
 use Rattle.board.specs.Permitted.{governs}
 use Rattle.asks.proofs.by_rule.Goals as goal
 

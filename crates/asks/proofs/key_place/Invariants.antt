@@ -1,9 +1,6 @@
 -- `key_place` is right: the place is not before low, and at most so many places beyond it as are left; a turn
 -- halves what is left.
-use mathlib.Core.Logic.{⊎_elim}
-use native.Mathlib.Omega.{arith}
-use borrow.Author.Rules.{rules}
-use Rattle.asks.proofs.Halving.{Between, starts, goes_up, goes_down, ends}
+use Rattle.asks.proofs.Halving.{Between}
 use Rattle.asks.proofs.key_place.Given as goal
 
 abbrev pub invariant-loop-left : goal.invariant-loop-left

@@ -1,9 +1,5 @@
 -- `permission_keys` is right: after i turns the first i keys stand in their places.
-use Prim.Native.Nat.{◌-◌, ◌≤◌}
 use borrow.Author.Rules.{rules}
-use Rattle.board.specs.Filler.{no_permission}
-use Rattle.board.specs.Limits.{max_permissions}
-use Rattle.asks.specs.Keys.{permission_key, Keys}
 use Rattle.asks.proofs.Places.{keys_start, keys_next, keys_end}
 use Rattle.asks.proofs.permission_keys.Goals as goal
 

@@ -1,10 +1,8 @@
 -- `rule_keys` is right: after i turns the first i keys stand in their places.
 use Prim.Native.Nat.{◌-◌, ◌≤◌}
-use borrow.Author.Rules.{rules}
 use Rattle.board.specs.Filler.{no_rule}
 use Rattle.board.specs.Limits.{max_rules}
 use Rattle.asks.specs.Keys.{rule_key, Keys}
-use Rattle.asks.proofs.Places.{keys_start, keys_next, keys_end}
 use Rattle.asks.proofs.rule_keys.Given as goal
 
 abbrev pub invariant-loop-i : goal.invariant-loop-i
