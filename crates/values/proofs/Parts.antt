@@ -2,7 +2,7 @@
 -- record before it, tells of the whole part; one place further adds that place's test; past the last place
 -- nothing is left.
 use mathlib.Core.Path.{◌≡◌, refl, sym, ◌∙◌}
-use mathlib.Core.Bool.{Bool, true, false, not, ◌&&◌, ◌||◌}
+use mathlib.Core.Bool.{Bool, true, false, ◌&&◌, ◌||◌}
 use mathlib.Core.List.{List, [], ◌∷◌}
 use Prim.Native.Nat.{ℕ, zero, suc, ◌+◌, ◌-◌, ◌≤◌, ◌<◌}
 use native.Mathlib.Nat.{sub-zero}
@@ -11,7 +11,7 @@ use native.Mathlib.Omega.{arith}
 use lib.Dec.{eqb, ltb}
 use lib.ListN.{length, get_or, take, drop, drop_of_length-le}
 use lib.Seq.{drop-cons}
-use borrow.Author.Tests.{ltb-true, ltb-false, ne_eqb, not-true, not-false}
+use borrow.Author.Tests.{ltb-true, ltb-false, ne_eqb}
 use Rattle.orders.specs.Lists.{all}
 use Rattle.orders.proofs.Tests.{by_test, or_right}
 use Rattle.board.specs.Good.{next_above, rising}
@@ -90,22 +90,22 @@ at_start {t = t} {count} {l = l} {previous} s =
 module _ {A : Type 0} {t : Tests A} {count size : ℕ} {l : List A} {i : ℕ} {previous : A} where
   pub passes :
       (z : A) {r : Bool} → RestTells t count size l i previous → i < size
-      → r ≡ place t count i previous (get_or l i z) → not r ≡ false
+      → r ≡ place t count i previous (get_or l i z) → r ≡ true
       → RestTells t count size l (i + 1) (get_or l i z)
   passes z {r} known h e passed =
       record {
         sized = known.sized;
         tells =
             known.tells ∙ further t count l i previous z (rw known.sized h)
-            ∙ rw (sym e ∙ not-false r passed);
+            ∙ rw (sym e ∙ passed);
       }
 
   pub fails :
       (z : A) {r : Bool} → RestTells t count size l i previous → i < size
-      → r ≡ place t count i previous (get_or l i z) → not r ≡ true → false ≡ part_good t count l
+      → r ≡ place t count i previous (get_or l i z) → r ≡ false → false ≡ part_good t count l
   fails z {r} known h e failed =
       sym
-      (known.tells ∙ further t count l i previous z (rw known.sized h) ∙ rw (sym e ∙ not-true r failed))
+      (known.tells ∙ further t count l i previous z (rw known.sized h) ∙ rw (sym e ∙ failed))
 
   pub at_end : RestTells t count size l i previous → size ≤ i → true ≡ part_good t count l
   at_end known h =

@@ -2,7 +2,7 @@
 -- and then one over the filler. What is left tells of the whole.
 use mathlib.Core.Path.{◌≡◌, refl, sym, ap, ◌∙◌}
 use mathlib.Core.Logic.{◌⊎◌, inl, inr, ⊎_elim}
-use mathlib.Core.Bool.{Bool, true, false, not, ◌&&◌}
+use mathlib.Core.Bool.{Bool, true, false, ◌&&◌}
 use mathlib.Core.List.{List, [], ◌∷◌}
 use Prim.Native.Nat.{ℕ, ◌+◌, ◌≤◌, ◌<◌}
 use native.Mathlib.Numerals.{add-one}
@@ -12,7 +12,7 @@ use lib.ListN.{length, get_or, take, drop, length-take, drop_of_length-le}
 use lib.Seq.{drop-cons, get_or-take}
 use borrow.Author.Tests.{ltb-true, ltb-false}
 use Rattle.orders.specs.Lists.{all}
-use Rattle.orders.proofs.Tests.{by_test, and_true, and_yes, not_true, not_false}
+use Rattle.orders.proofs.Tests.{by_test, and_true, and_yes}
 use Rattle.board.specs.Good.{part_fits}
 use Rattle.values.specs.Places.{Tests, part_good}
 
@@ -77,17 +77,17 @@ module _ {A S : Type 0} {t : Tests A} {n : Scan A S} {count size : ℕ} {l : Lis
             ∙ rw (get_or-take count l i z h.0))
 
     pub passes :
-        not r ≡ false → {new : S} → new ≡ n.next s (get_or l i z) → Scanned t n count size l (i + 1) new
+        r ≡ true → {new : S} → new ≡ n.next s (get_or l i z) → Scanned t n count size l (i + 1) new
     passes e is =
         record {
           sized = known.sized;
           within = omega (arith, (in_turn i count size taken).0);
-          tells = one_more ∙ rw (not_false r e, is);
+          tells = one_more ∙ rw (e, is);
         }
 
-    pub fails : not r ≡ true → false ≡ part_good t count l
+    pub fails : r ≡ false → false ≡ part_good t count l
     unfolding part_good
-    fails e = rw (one_more, not_true r e)
+    fails e = rw (one_more, e)
 
   -- at the end: only the last test is left, and the filler begins
   module _ (over : ltb i count && ltb i size ≡ false) where
@@ -130,13 +130,13 @@ module _ {A : Type 0} (t : Tests A) {count size : ℕ} {l : List A} {i : ℕ}
         rest : drop i l ≡ get_or l i z ∷ drop (i + 1) l
         rest = rw (add-one i) (drop-cons l i z (rw known.sized h))
 
-    pub fills_on : not r ≡ false → FillerTells t.filler count size l (i + 1)
-    fills_on e = record { sized = known.sized; tells = one_less ∙ rw (not_false r e) }
+    pub fills_on : r ≡ true → FillerTells t.filler count size l (i + 1)
+    fills_on e = record { sized = known.sized; tells = one_less ∙ rw (e) }
 
-    pub fills_not : not r ≡ true → false ≡ part_good t count l
+    pub fills_not : r ≡ false → false ≡ part_good t count l
     unfolding part_good
     fills_not e =
-        rw (one_less, not_true r e) (sym (and_no (part_fits t.fits t.below (take count l))))
+        rw (one_less, e) (sym (and_no (part_fits t.fits t.below (take count l))))
 
   -- at the end what was found of the records is the answer
   pub filled_all :
