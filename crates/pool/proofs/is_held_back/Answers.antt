@@ -1,15 +1,11 @@
 -- `is_held_back` is right: none of the first i duties is wholly before d; at the end they are the first n.
 use mathlib.Core.Path.{◌≡◌, refl, sym, ◌∙◌}
-use mathlib.Core.Bool.{Bool, false}
-use Prim.Native.Nat.{◌-◌, ◌≤◌, ◌<◌, min}
+use Prim.Native.Nat.{◌<◌, min}
 use native.Mathlib.Omega.{arith}
-use lib.ListN.{length, take}
+use lib.ListN.{length}
 use borrow.Author.Rules.{rules}
-use Rattle.orders.specs.Lists.{any}
 use Rattle.orders.proofs.Loops.{none_next, some_at}
-use Rattle.board.specs.declared.Duty.{Duty}
 use Rattle.board.specs.Limits.{max_duties}
-use Rattle.board.specs.Windows.{wholly_before}
 use Rattle.pool.proofs.Turns.{in_turn, at_end, same_first}
 use Rattle.pool.proofs.is_held_back.Invariants.{holdsBack}
 use Rattle.pool.proofs.is_held_back.Goals as goal

@@ -1,16 +1,11 @@
 -- `is_held_back` is right: none of the first i duties is wholly before d; at the end they are the first n.
-use mathlib.Core.Path.{◌≡◌, refl, sym, ◌∙◌}
+use mathlib.Core.Path.{◌≡◌}
 use mathlib.Core.Bool.{Bool, false}
-use Prim.Native.Nat.{◌-◌, ◌≤◌, ◌<◌, min}
-use native.Mathlib.Omega.{arith}
-use lib.ListN.{length, take}
-use borrow.Author.Rules.{rules}
+use Prim.Native.Nat.{◌-◌, ◌≤◌}
+use lib.ListN.{take}
 use Rattle.orders.specs.Lists.{any}
-use Rattle.orders.proofs.Loops.{none_next, some_at}
 use Rattle.board.specs.declared.Duty.{Duty}
-use Rattle.board.specs.Limits.{max_duties}
 use Rattle.board.specs.Windows.{wholly_before}
-use Rattle.pool.proofs.Turns.{in_turn, at_end, same_first}
 use Rattle.pool.proofs.is_held_back.Given as goal
 
 -- y is wholly before d

@@ -1,11 +1,10 @@
 -- `with_serial` is right: what is left at place i finds what the first n duties find, and at the end nothing
 -- is left.
 use mathlib.Core.Path.{◌≡◌, refl, sym, ap, ◌∙◌}
-use Prim.Native.Nat.{◌-◌, ◌<◌, min}
+use Prim.Native.Nat.{◌<◌, min}
 use lib.ListN.{length}
 use borrow.Author.Rules.{rules}
-use Rattle.orders.proofs.Search.{Left, hit, skip, over}
-use Rattle.board.specs.After.{named}
+use Rattle.orders.proofs.Search.{hit, skip, over}
 use Rattle.board.specs.Limits.{max_duties}
 use Rattle.pool.specs.Found.{found}
 use Rattle.pool.proofs.Turns.{in_turn, at_end}

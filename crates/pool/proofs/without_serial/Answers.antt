@@ -2,21 +2,17 @@
 -- the room, from place i on it is as it was, and at the end the first i are the first n. Then filler stands
 -- behind them up to place k.
 use mathlib.Core.Path.{◌≡◌, refl, sym, ap, ◌∙◌}
-use mathlib.Core.Logic.{⊎_elim}
-use mathlib.Core.Bool.{Bool, not}
-use Prim.Native.Nat.{ℕ, ◌-◌, ◌≤◌, ◌<◌, min}
+use mathlib.Core.Bool.{not}
+use Prim.Native.Nat.{◌<◌, min}
 use native.Mathlib.Omega.{arith}
 use lib.ListN.{length, take}
 use borrow.Author.Rules.{rules}
-use Rattle.board.specs.declared.Duty.{Duty}
-use Rattle.board.specs.After.{named}
 use Rattle.board.specs.Limits.{max_duties}
-use Rattle.pool.proofs.ClosedUp.{ClosedUp, starts, written, passed_over}
-use Rattle.pool.proofs.ClosedUp.{FilledUp, fill_starts, filled, fill_ends}
+use Rattle.pool.proofs.ClosedUp.{starts, written, passed_over}
+use Rattle.pool.proofs.ClosedUp.{fill_starts, filled, fill_ends}
 use Rattle.pool.proofs.Turns.{in_turn, at_end, same_first}
-use Rattle.pool.proofs.without_serial.Invariants.{stays}
 use Rattle.pool.proofs.without_serial.Goals as goal
-use Rattle.pool.proofs.without_serial.Goals.{After-loop-i, In-loop-i}
+use Rattle.pool.proofs.without_serial.Goals.{After-loop-i, In-loop-i, then-not-has_serial, else-not-has_serial}
 
 -- in a turn, the duty at place i is one of the first n
 within :
@@ -73,10 +69,12 @@ loop-i-preserved c =
       omega arith,
       (
         omega arith,
-        ⊎_elim
-            (λ w. rw (w.1, w.2) (written known _ (omega arith) (omega arith) (other ∙ w.0.taken)))
-            (λ w. rw (w.1, w.2) (passed_over known _ (omega arith) (other ∙ w.0.left)))
-            c.if-not-has_serial.branch,
+        elim c.if-not-has_serial.branch [
+          | then-not-has_serial w ↦
+              rw (w.out-is, w.count-is) (written known _ (omega arith) (omega arith) (other ∙ ap not w.if-not-has_serial.true))
+          | else-not-has_serial w ↦
+              rw (w.out-is, w.count-is) (passed_over known _ (omega arith) (other ∙ ap not w.if-not-has_serial.false))
+        ],
       ),
     )
 

@@ -1,19 +1,13 @@
 -- `without_serial` is right: of the first i duties those without the serial stand closed up at the start of
 -- the room, from place i on it is as it was, and at the end the first i are the first n. Then filler stands
 -- behind them up to place k.
-use mathlib.Core.Path.{◌≡◌, refl, sym, ap, ◌∙◌}
-use mathlib.Core.Logic.{⊎_elim}
 use mathlib.Core.Bool.{Bool, not}
-use Prim.Native.Nat.{ℕ, ◌-◌, ◌≤◌, ◌<◌, min}
-use native.Mathlib.Omega.{arith}
-use lib.ListN.{length, take}
-use borrow.Author.Rules.{rules}
+use Prim.Native.Nat.{ℕ, ◌-◌, ◌≤◌}
 use Rattle.board.specs.declared.Duty.{Duty}
 use Rattle.board.specs.After.{named}
 use Rattle.board.specs.Limits.{max_duties}
-use Rattle.pool.proofs.ClosedUp.{ClosedUp, starts, written, passed_over}
-use Rattle.pool.proofs.ClosedUp.{FilledUp, fill_starts, filled, fill_ends}
-use Rattle.pool.proofs.Turns.{in_turn, at_end, same_first}
+use Rattle.pool.proofs.ClosedUp.{ClosedUp}
+use Rattle.pool.proofs.ClosedUp.{FilledUp}
 use Rattle.pool.proofs.without_serial.Given as goal
 
 -- the duty has another serial
