@@ -1,0 +1,14 @@
+-- `duties_of` meets its contract. The loop's invariant: the first i places hold the duties that
+-- the bytes say, the rest of the room holds the filler.
+use Prim.Native.Nat.{◌-◌}
+use Rattle.board.specs.Filler.{no_duty}
+use Rattle.board.specs.Limits.{max_duties}
+use Rattle.file.specs.Records.{duty_at}
+use Rattle.file.proofs.Filled.{Filling}
+use Rattle.file.proofs.reads.duties_of.Given as goal
+
+abbrev pub invariant-loop-i : goal.invariant-loop-i
+invariant-loop-i l = Filling (duty_at l.s) no_duty max_duties l.n l.i l.out
+
+abbrev pub decreases-loop-i : goal.decreases-loop-i
+decreases-loop-i l = l.n - l.i
