@@ -58,6 +58,7 @@ pub record Numbered (serial : ℕ) (new : List NewDuty) (d : Duty) : Type 0 wher
 
 pub numbered_mem :
     (serial : ℕ) (new : List NewDuty) (d : Duty) → Mem d (numbered serial new) → Numbered serial new d
+numbered_mem serial [] d x' = elim x' [ ]
 numbered_mem serial (n ∷ new) d (here e) =
     record {
       asked = n;
