@@ -28,7 +28,7 @@ use Rattle.board.proofs.GreenLaws.{not_empty, red_not_green}
 use Rattle.board.proofs.PoolLaws.{duties_pool}
 use Rattle.plain.specs.Walks.{most, first_failing_of, serials, walk_checks, Walks}
 use Rattle.plain.specs.Walking.{walked, told}
-use Rattle.plain.proofs.Found.{first_found}
+use Rattle.plain.proofs.Found.{first_found_lem}
 use Rattle.plain.proofs.Written.{written_first}
 
 module _ (b : Board) (before : List ℕ) where
@@ -92,7 +92,7 @@ module _ (b : Board) (before : List ℕ) where
 
         module _ (after : List ℕ) (r : ℕ) (is : (r, after) ≡ told 0 before (walked n b)) where
           found_is : (r, after) ≡ told 0 before (first_failing_of v)
-          found_is = is ∙ ap (told 0 before) (first_found b size whole n (sym counted))
+          found_is = is ∙ ap (told 0 before) (first_found_lem b size whole n (sym counted))
 
           pub walked_green : r ≡ 0 → Walks b before after (plain_answer answer.done)
           walked_green zero_long = go (first_failing_of v) refl found_is
