@@ -1,3 +1,4 @@
+pub mod AfterOne
 pub mod MostAndLeast
 pub mod Alone
 pub mod Asking

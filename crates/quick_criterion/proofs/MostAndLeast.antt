@@ -25,10 +25,7 @@ use Rattle.board.specs.Limits.{max_roles}
 use Rattle.board.specs.Permitted.{effect_of}
 use Rattle.board.specs.Windows.{wholly_before}
 use Rattle.quick_criterion.specs.Tests.{granted, revoked, most, least}
-
--- the set after one duty: `by` says what it makes of a set
-abbrev pub after_one : (What → ℕ → ℕ) → Duty → Duty → ℕ → ℕ
-after_one by d g set = cond (wholly_before g d) (by g.what set) set
+pub use Rattle.quick_criterion.proofs.AfterOne.{after_one}
 
 -- `end` goes through a list with `by`
 pub record Through (by : What → ℕ → ℕ) (d : Duty) (end : ℕ → List Duty → ℕ) : Type 0 where
