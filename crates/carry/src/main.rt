@@ -7,21 +7,18 @@ ghost use Rattle.std.specs.Prelude.{◌≤◌, length};
 
 use board::{Answer, Board};
 use session::{LENT, Record, SIZE};
+use std::io;
 
-// The most digits of a number.
-const DIGITS: usize = 20;
+// The most bytes that are read.
+const ROOM: usize = 65536;
 
 // Say why nothing is written.
-fn refuse(number: u8) {
+fn refuse(rt: &impl Eprint, number: u8) -> io::Result<()> {
     if number == Answer::RED {
-        io::write_all(libc::STDERR_FILENO, b"carry: the board is red\n");
-        return;
+        eprintln!(rt; "carry: the board is red")
+    } else {
+        eprintln!(rt; "carry: refused {number}")
     }
-    let mut digits = [0u8; DIGITS];
-    let n = io::decimal(number as u64, &mut digits);
-    io::write_all(libc::STDERR_FILENO, b"carry: refused ");
-    io::write_all(libc::STDERR_FILENO, &digits[..n]);
-    io::write_all(libc::STDERR_FILENO, b"\n");
 }
 
 // The board after a record: a poke, a call, or neither, which leaves it as it is.
@@ -51,45 +48,45 @@ fn after_calls(b: Board, s: &[u8], from: usize) -> Board
 }
 
 // Write the first n bytes.
-fn write_out(bytes: &[u8], n: usize) {
+fn write_out(rt: &impl Print, bytes: &[u8], n: usize) -> io::Result<()> {
     if n <= bytes.len() {
-        io::write_all(libc::STDOUT_FILENO, &bytes[0..n]);
+        rt.write_all(&bytes[0..n])
+    } else {
+        Ok(())
     }
 }
 
 // Write the file of a board that is green.
-fn write_file(b: Board) {
+fn write_file(rt: &(impl Print + Eprint), b: Board) -> io::Result<()> {
     let mut list = [0u32; Board::DUTIES];
     let verdict = verdict::check(b, &mut list);
     if verdict.number != Answer::DONE {
-        refuse(verdict.number);
-        return;
+        return refuse(rt, verdict.number);
     }
     let mut buffer = [0u8; layout::LONGEST];
     let answer = save::save(b, &mut buffer);
     if answer.number != Answer::DONE {
-        refuse(answer.number);
-        return;
+        return refuse(rt, answer.number);
     }
-    write_out(&buffer, answer.length);
+    write_out(rt, &buffer, answer.length)
 }
 
 // Open the board, make the calls, and write the file.
-fn carry(s: &[u8]) {
+fn carry(rt: &(impl Print + Eprint), s: &[u8]) -> io::Result<()> {
     let first = session::file_start(s);
     let end = session::file_end(s);
     let mut list = [0u32; Board::DUTIES];
     let opening = open::open(&s[first..end], &mut list);
     if opening.answer.number != Answer::DONE {
-        refuse(opening.answer.number);
-        return;
+        return refuse(rt, opening.answer.number);
     }
     let board = opening.board;
-    write_file(after_calls(board, s, end));
+    write_file(rt, after_calls(board, s, end))
 }
 
-fn main() {
-    let mut bytes = io::large_buffer();
-    let n = io::read_full(0, &mut bytes);
-    carry(&bytes[..n]);
+fn main(rt: HostRuntime) -> io::Result<()> {
+    let mut bytes = [0u8; ROOM];
+    let mut input = rt.reader();
+    let n = streams::read_full(&mut input, &mut bytes)?;
+    carry(&rt, &bytes[..n])
 }

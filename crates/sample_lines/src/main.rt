@@ -3,6 +3,8 @@
 
 ghost use Rattle.std.specs.Prelude.{◌<◌};
 
+use std::io;
+
 // More than the longest input here.
 const ROOM: usize = 32768;
 
@@ -21,27 +23,29 @@ fn number(s: &[u8; 4]) -> usize {
 }
 
 // Print the line of the next input. False, and nothing printed, if there is none.
-fn next() -> bool {
+fn next(rt: &(impl Input + Print)) -> io::Result<bool> {
     let mut length = [0u8; 4];
-    let read = io::read_full(0, &mut length);
+    let mut input = rt.reader();
+    let read = streams::read_full(&mut input, &mut length)?;
     if read < 4 {
-        return false;
+        return Ok(false);
     }
     let n = number(&length);
     if ROOM < n {
-        return false;
+        return Ok(false);
     }
     let mut room = [0u8; ROOM];
-    standard_input::print_line(&mut room[..n]);
-    true
+    standard_input::print_line(rt, &mut room[..n])?;
+    Ok(true)
 }
 
-fn main() {
+fn main(rt: HostRuntime) -> io::Result<()> {
     let mut left = MOST;
     while 0 < left {
-        if !next() {
-            return;
+        if !next(&rt)? {
+            return Ok(());
         }
         left -= 1;
     }
+    Ok(())
 }

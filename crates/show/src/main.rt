@@ -6,64 +6,56 @@ mod orders;
 
 use board::{Answer, Board};
 use orders::{MOST_LINES, empty, show_rest};
-
-// Print a word and a number as a line.
-fn print_line(word: &[u8], number: u64) {
-    io::write_all(1, word);
-    io::print_decimal(1, number);
-    io::write_all(1, b"\n");
-}
+use std::io;
 
 // Print how many lines were left out, if some were, and how many there are.
-fn print_count(orders: u32) {
+fn print_count(rt: &impl Print, orders: u32) -> io::Result<()> {
     if MOST_LINES < orders {
-        print_line(b"cut ", (orders - MOST_LINES) as u64);
+        println!(rt; "cut {}", orders - MOST_LINES)?;
     }
-    print_line(b"orders ", orders as u64);
+    println!(rt; "orders {orders}")
 }
 
 // Print the first failing order, of this length.
-fn print_failing(length: usize, list: [u32; Board::DUTIES]) {
-    io::write_all(1, b"no ");
-    io::print_decimal(1, length as u64);
+fn print_failing(rt: &impl Print, length: usize, list: [u32; Board::DUTIES]) -> io::Result<()> {
+    print!(rt; "no {length}")?;
     let count = board::within(length, Board::DUTIES);
     let mut i: usize = 0;
     while i < count {
-        io::write_all(1, b" ");
-        io::print_decimal(1, list[i] as u64);
+        print!(rt; " {}", list[i])?;
         i += 1;
     }
-    io::write_all(1, b"\n");
+    println!(rt)
 }
 
 // Print every order of a board, and the verdict of the plain walk.
-fn show(b: Board) {
+fn show(rt: &impl Print, b: Board) -> io::Result<()> {
     let mut list = [0u32; Board::DUTIES];
     let answer = plain::walk(b, &mut list);
     let number = answer.number;
     if (number != Answer::DONE) & (number != Answer::RED) {
-        print_line(b"refused ", number as u64);
-        return;
+        return println!(rt; "refused {number}");
     }
     let n = b.counts.duties as usize;
     let order = empty();
-    print_count(show_rest(b, n, order, 0));
+    let shown = show_rest(rt, b, n, order, 0)?;
+    print_count(rt, shown)?;
     if number == Answer::DONE {
-        print_line(b"yes ", n as u64);
+        println!(rt; "yes {n}")
     } else {
-        print_failing(answer.length, list);
+        print_failing(rt, answer.length, list)
     }
 }
 
-fn main() {
+fn main(rt: HostRuntime) -> io::Result<()> {
     let mut room = [0u8; layout::LONGEST + 1];
-    let n = io::read_full(0, &mut room);
+    let mut input = rt.reader();
+    let n = streams::read_full(&mut input, &mut room)?;
     let reading = file::read(&room[..n]);
     let number = reading.number;
     if number != Answer::DONE {
-        print_line(b"refused ", number as u64);
-        return;
+        return println!(rt; "refused {number}");
     }
     let b = reading.board;
-    show(b);
+    show(&rt, b)
 }

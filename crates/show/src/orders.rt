@@ -1,6 +1,7 @@
 // The walk that prints every order that the windows allow: one line each, with `yes` where every duty is
 // permitted when its turn comes; else it ends with the first that is not, and `no`.
 use board::{Board, Serial};
+use std::io;
 
 // No more orders are printed; the rest is only counted.
 pub(crate) const MOST_LINES: u32 = 5000;
@@ -33,39 +34,45 @@ fn with_next(order: Order, serial: Serial) -> Order {
 }
 
 // Print the serials of an order, each with a space behind it.
-fn print_serials(order: Order) {
+fn print_serials(rt: &impl Print, order: Order) -> io::Result<()> {
     let serials = order.serials;
     let count = board::within(order.length, plain::MOST);
     let mut i: usize = 0;
     while i < count {
-        io::print_decimal(1, serials[i] as u64);
-        io::write_all(1, b" ");
+        print!(rt; "{} ", serials[i])?;
         i += 1;
     }
+    Ok(())
 }
 
 // One order more: print its line, unless enough are printed, and count it.
-fn with_order(shown: u32, order: Order, permitted: bool) -> u32 {
+fn with_order(rt: &impl Print, shown: u32, order: Order, permitted: bool) -> io::Result<u32> {
     if shown < MOST_LINES {
-        print_serials(order);
+        print_serials(rt, order)?;
         if permitted {
-            io::write_all(1, b"yes\n");
+            println!(rt; "yes")?;
         } else {
-            io::write_all(1, b"no\n");
+            println!(rt; "no")?;
         }
     }
     if shown < 4294967295 {
-        return shown + 1;
+        return Ok(shown + 1);
     }
-    shown
+    Ok(shown)
 }
 
 // Show every order that begins with the duties done and goes on with those left: each duty that may come
 // next and then the rest in the same way. A duty that is not permitted ends its order. Answered is how many
 // were met by now, where so many were met before.
-pub(crate) fn show_rest(b: Board, left: usize, done: Order, so_far: u32) -> u32 {
+pub(crate) fn show_rest(
+    rt: &impl Print,
+    b: Board,
+    left: usize,
+    done: Order,
+    so_far: u32,
+) -> io::Result<u32> {
     if left == 0 {
-        return with_order(so_far, done, true);
+        return with_order(rt, so_far, done, true);
     }
     let n = b.counts.duties as usize;
     let duties = b.duties;
@@ -80,12 +87,12 @@ pub(crate) fn show_rest(b: Board, left: usize, done: Order, so_far: u32) -> u32 
             let next = with_next(done, serial);
             if permitted::permitted(b, d.doer, what) {
                 let rest = after::did(b, b.clock, serial, what);
-                shown = show_rest(rest, left - 1, next, shown);
+                shown = show_rest(rt, rest, left - 1, next, shown)?;
             } else {
-                shown = with_order(shown, next, false);
+                shown = with_order(rt, shown, next, false)?;
             }
         }
         i += 1;
     }
-    shown
+    Ok(shown)
 }

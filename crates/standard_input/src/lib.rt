@@ -3,10 +3,14 @@
 // show.
 #![tactic(auto)]
 
-// Fill the room from standard input, or as far as that goes, and print the line for what was read.
-pub fn print_line(room: &mut [u8]) {
-    let n = io::read_full(0, room);
+use std::io;
+
+// Fill the room from standard input, or as far as that goes, and print the line for what was read. Where a
+// read fails nothing is printed, and its error is answered; where the write fails, the error of that.
+pub fn print_line(rt: &(impl Input + Print), room: &mut [u8]) -> io::Result<()> {
+    let mut input = rt.reader();
+    let n = streams::read_full(&mut input, room)?;
     let mut out = [0u8; line::ROOM];
     let k = printed::line_for(&room[..n], &mut out);
-    io::write_all(1, &out[..k]);
+    rt.write_all(&out[..k])
 }

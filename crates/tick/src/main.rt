@@ -3,7 +3,9 @@
 // number of the answer.
 #![tactic(auto)]
 
-fn main() {
+use std::io;
+
+fn main(rt: HostRuntime) -> io::Result<()> {
     let mut room = [0u8; layout::LONGEST + 1];
-    standard_input::print_line(&mut room);
+    standard_input::print_line(&rt, &mut room)
 }
