@@ -17,7 +17,7 @@ const ROLE_1: u32 = 2;
 
 // A duty: who is to do what, from start to end.
 #[derive(Clone, Copy)]
-struct Planned {
+pub(crate) struct Planned {
     pub doer: u16,
     pub action: u16,
     pub first: u16,

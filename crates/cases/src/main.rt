@@ -13,6 +13,7 @@ mod wanted;
 use board::{Answer, Board};
 use boards::{FILES, Small, board_of, file_of, opening_of};
 use lent_once::Left;
+use std::io;
 use steps::{Ask, Case, case_of, step_of};
 use wanted::{Told, is_wanted};
 
@@ -21,39 +22,32 @@ const MARK: u32 = 4294967295;
 
 // ---- lines
 
-// Print a number after a space.
-fn number(n: u64) {
-    io::write_all(1, b" ");
-    io::print_decimal(1, n);
-}
-
 // Print a serial of a failing order.
-fn print_serial(serial: u32) {
-    number(serial as u64);
+fn print_serial(rt: &impl Print, serial: u32) -> io::Result<()> {
+    print!(rt; " {serial}")
 }
 
 // Print an answer: its number, its serial, and the failing order.
-fn print_answer(answer: Answer, list: &[u32]) {
+fn print_answer(rt: &impl Print, answer: Answer, list: &[u32]) -> io::Result<()> {
     let serial = answer.serial;
-    number(answer.number as u64);
-    number(serial.0 as u64);
-    number(answer.length as u64);
+    print!(rt; " {} {} {}", answer.number, serial.0, answer.length)?;
     let count = board::within(answer.length, list.len());
     let mut i: usize = 0;
     while i < count {
-        print_serial(list[i]);
+        print_serial(rt, list[i])?;
         i += 1;
     }
+    Ok(())
 }
 
 // End a line, and answer how many differences it shows.
-fn end_line(right: bool) -> u32 {
+fn end_line(rt: &impl Print, right: bool) -> io::Result<u32> {
     if right {
-        io::write_all(1, b"\n");
-        return 0;
+        println!(rt)?;
+        return Ok(0);
     }
-    io::write_all(1, b" differs\n");
-    1
+    println!(rt; " differs")?;
+    Ok(1)
 }
 
 // ---- boards that are opened
@@ -83,48 +77,44 @@ fn told_of(answer: Answer, board: Board) -> Told {
 }
 
 // Print which file the k-th is.
-fn print_name(k: u8) {
+fn print_name(rt: &impl Print, k: u8) -> io::Result<()> {
     if k == 12 {
-        io::write_all(1, b"case 6b");
-        return;
+        return print!(rt; "case 6b");
     }
     if k == 13 {
-        io::write_all(1, b"case 9b");
-        return;
+        return print!(rt; "case 9b");
     }
-    io::write_all(1, b"case");
-    number(k as u64);
+    print!(rt; "case {k}")
 }
 
 // Print how the calls are made.
-fn print_way(lent: bool) {
-    if lent {
-        io::write_all(1, b"lent ");
-    }
+fn print_way(rt: &impl Print, lent: bool) -> io::Result<()> {
+    if lent { print!(rt; "lent ") } else { Ok(()) }
 }
 
 // Open the k-th file, and compare the answer.
-fn open_case(lent: bool, k: u8) -> u32 {
+fn open_case(rt: &impl Print, lent: bool, k: u8) -> io::Result<u32> {
     let mut list = [MARK; Board::DUTIES];
     let opening = opened(lent, board_of(k), &mut list);
     let answer = opening.answer;
     let board = opening.board;
-    print_way(lent);
-    print_name(k);
-    io::write_all(1, b":");
-    print_answer(answer, &list);
-    end_line(is_wanted(opening_of(k), told_of(answer, board), &list))
+    print_way(rt, lent)?;
+    print_name(rt, k)?;
+    print!(rt; ":")?;
+    print_answer(rt, answer, &list)?;
+    end_line(rt, is_wanted(opening_of(k), told_of(answer, board), &list))
 }
 
 // Open every file.
-fn open_all(lent: bool) -> u32 {
+fn open_all(rt: &impl Print, lent: bool) -> io::Result<u32> {
     let mut differences: u32 = 0;
     let mut k: u8 = 1;
     while k <= FILES {
-        differences = plus(differences, open_case(lent, k));
+        let more = open_case(rt, lent, k)?;
+        differences = plus(differences, more);
         k += 1;
     }
-    differences
+    Ok(differences)
 }
 
 // ---- calls in turn
@@ -145,7 +135,7 @@ fn called(lent: bool, b: Board, ask: Ask, list: &mut [u32]) -> Left {
 }
 
 // Make the call of a step, and compare the answer and the board.
-fn made(lent: bool, case: Case, k: u8, before: Turn) -> Turn {
+fn made(rt: &impl Print, lent: bool, case: Case, k: u8, before: Turn) -> io::Result<Turn> {
     let step = step_of(case.number, k);
     let mut list = [MARK; Board::DUTIES];
     let ask = step.ask;
@@ -153,23 +143,19 @@ fn made(lent: bool, case: Case, k: u8, before: Turn) -> Turn {
     let left = called(lent, b, ask, &mut list);
     let answer = left.answer;
     let board = left.board;
-    print_way(lent);
-    io::write_all(1, b"case");
-    number(case.number as u64);
-    io::write_all(1, b" step");
-    number(k as u64);
-    io::write_all(1, b":");
-    print_answer(answer, &list);
+    print_way(rt, lent)?;
+    print!(rt; "case {} step {k}:", case.number)?;
+    print_answer(rt, answer, &list)?;
     let wanted = step.wanted;
-    let more = end_line(is_wanted(wanted, told_of(answer, board), &list));
-    Turn {
+    let more = end_line(rt, is_wanted(wanted, told_of(answer, board), &list))?;
+    Ok(Turn {
         board,
         differences: plus(before.differences, more),
-    }
+    })
 }
 
 // The steps of a case in turn, on the board that it opens.
-fn run(lent: bool, which: u8) -> u32 {
+fn run(rt: &impl Print, lent: bool, which: u8) -> io::Result<u32> {
     let case = case_of(which);
     let mut list = [MARK; Board::DUTIES];
     let opening = opened(lent, board_of(case.file), &mut list);
@@ -181,10 +167,10 @@ fn run(lent: bool, which: u8) -> u32 {
     let mut k: u8 = 0;
     while k < case.steps {
         k += 1;
-        let next = made(lent, case, k, now);
+        let next = made(rt, lent, case, k, now)?;
         now = next;
     }
-    now.differences
+    Ok(now.differences)
 }
 
 // The sum, or the largest number where it does not fit.
@@ -197,15 +183,18 @@ fn plus(a: u32, b: u32) -> u32 {
 }
 
 // All boards, by value or through the lent layer: how many differences there were.
-fn all(lent: bool) -> u32 {
-    let files = open_all(lent);
-    let calls = plus(plus(run(lent, 12), run(lent, 13)), run(lent, 14));
-    plus(files, calls)
+fn all(rt: &impl Print, lent: bool) -> io::Result<u32> {
+    let files = open_all(rt, lent)?;
+    let first = run(rt, lent, 12)?;
+    let second = run(rt, lent, 13)?;
+    let third = run(rt, lent, 14)?;
+    let calls = plus(plus(first, second), third);
+    Ok(plus(files, calls))
 }
 
-fn main() {
-    let differences = plus(all(false), all(true));
-    io::write_all(1, b"differences");
-    number(differences as u64);
-    io::write_all(1, b"\n");
+fn main(rt: HostRuntime) -> io::Result<()> {
+    let by_value = all(&rt, false)?;
+    let lent = all(&rt, true)?;
+    let differences = plus(by_value, lent);
+    println!(rt; "differences {differences}")
 }

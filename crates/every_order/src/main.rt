@@ -23,6 +23,7 @@ use order::{is_failing, is_untouched, places_differ};
 use reader::refusal;
 use rules::{BY_PLACE, BY_STARTS, ON_DOER, REVOKED_EARLIER, TOUCHING, TRUE_RULES, UNBARRED, only};
 use says::{is_smallest, says};
+use std::io;
 use tally::{
     Outcome, Tally, counted, line, nothing, print_damaged, print_made, print_refusals,
     print_shortcuts,
@@ -171,14 +172,16 @@ struct Tallies {
 }
 
 // Name the board, if the answer on one of its files is wrong and few were before.
-fn report(o: Outcome, t: Tally, board: u32) {
+fn report(rt: &impl Print, o: Outcome, t: Tally, board: u32) -> io::Result<()> {
     if !o.right & (t.wrong < 10) {
-        line(b"wrong at board", board);
+        line(rt, "wrong at board", board)
+    } else {
+        Ok(())
     }
 }
 
 // The counts with one more board, made from its random numbers, and then damaged.
-fn with_board(t: Tallies, board: u32) -> Tallies {
+fn with_board(rt: &impl Print, t: Tallies, board: u32) -> io::Result<Tallies> {
     let mut buffer = [0u8; 640];
     let length = make(&mut buffer, board);
     let as_made = compared_in(&buffer, length);
@@ -186,35 +189,35 @@ fn with_board(t: Tallies, board: u32) -> Tallies {
     let as_damaged = compared_in(&buffer, length_then);
     let made = t.made;
     let damaged = t.damaged;
-    report(as_made, made, board);
-    report(as_damaged, damaged, board);
-    Tallies {
+    report(rt, as_made, made, board)?;
+    report(rt, as_damaged, damaged, board)?;
+    Ok(Tallies {
         made: counted(made, as_made),
         damaged: counted(damaged, as_damaged),
-    }
+    })
 }
 
 // All boards in turn.
-fn all() -> Tallies {
+fn all(rt: &impl Print) -> io::Result<Tallies> {
     let made = nothing();
     let damaged = nothing();
     let mut tallies = Tallies { made, damaged };
     let mut board: u32 = 0;
     while board < BOARDS {
         board += 1;
-        tallies = with_board(tallies, board);
+        tallies = with_board(rt, tallies, board)?;
     }
-    tallies
+    Ok(tallies)
 }
 
-fn main() {
-    let t = all();
+fn main(rt: HostRuntime) -> io::Result<()> {
+    let t = all(&rt)?;
     let made = t.made;
     let damaged = t.damaged;
-    line(b"boards", BOARDS);
-    print_made(made);
-    print_shortcuts(made);
-    print_damaged(damaged);
-    print_refusals(damaged);
-    line(b"disagreements", plus(made.wrong, damaged.wrong));
+    line(&rt, "boards", BOARDS)?;
+    print_made(&rt, made)?;
+    print_shortcuts(&rt, made)?;
+    print_damaged(&rt, damaged)?;
+    print_refusals(&rt, damaged)?;
+    line(&rt, "disagreements", plus(made.wrong, damaged.wrong))
 }

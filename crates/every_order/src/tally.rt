@@ -1,6 +1,7 @@
 // What was met on each file, the counts of it, and the lines that tell them.
 use crate::rules::has;
 use crate::walk::plus;
+use std::io;
 
 // What was met on a file: the number that the program itself finds, how many orders it walked, the length of
 // the failing order that the board told, the set of shortcuts that would be wrong, and whether the board is
@@ -84,55 +85,51 @@ pub(crate) fn counted(t: Tally, o: Outcome) -> Tally {
 }
 
 // A line with a name and a number.
-pub(crate) fn line(name: &[u8], number: u32) {
-    io::write_all(1, name);
-    io::write_all(1, b" ");
-    io::print_decimal(1, number as u64);
-    io::write_all(1, b"\n");
+pub(crate) fn line(rt: &impl Print, name: &str, number: u32) -> io::Result<()> {
+    println!(rt; "{name} {number}")
 }
 
 // The lines on the boards as made.
-pub(crate) fn print_made(t: Tally) {
-    line(b"green", t.numbers[0]);
-    line(b"red", t.numbers[8]);
-    line(b"orders walked", t.orders);
-    line(b"longest failing order", t.longest);
+pub(crate) fn print_made(rt: &impl Print, t: Tally) -> io::Result<()> {
+    line(rt, "green", t.numbers[0])?;
+    line(rt, "red", t.numbers[8])?;
+    line(rt, "orders walked", t.orders)?;
+    line(rt, "longest failing order", t.longest)
 }
 
 // The lines on the shortcuts that walk other orders.
-fn print_shortcuts_on_orders(counts: [u32; 7]) {
-    line(b"wrong by the order of starts alone", counts[1]);
-    line(b"wrong by refusing after any revoke", counts[2]);
-    line(b"wrong by touching windows as ordered", counts[3]);
+fn print_shortcuts_on_orders(rt: &impl Print, counts: [u32; 7]) -> io::Result<()> {
+    line(rt, "wrong by the order of starts alone", counts[1])?;
+    line(rt, "wrong by refusing after any revoke", counts[2])?;
+    line(rt, "wrong by touching windows as ordered", counts[3])
 }
 
 // The lines on the shortcuts that permit otherwise, or name duties otherwise.
-fn print_other_shortcuts(counts: [u32; 7]) {
-    line(b"wrong by forgetting barred roles", counts[4]);
-    line(b"wrong by conditions on the doer", counts[5]);
-    line(b"wrong by naming duties by place", counts[6]);
+fn print_other_shortcuts(rt: &impl Print, counts: [u32; 7]) -> io::Result<()> {
+    line(rt, "wrong by forgetting barred roles", counts[4])?;
+    line(rt, "wrong by conditions on the doer", counts[5])?;
+    line(rt, "wrong by naming duties by place", counts[6])
 }
 
 // The lines on all shortcuts.
-pub(crate) fn print_shortcuts(t: Tally) {
+pub(crate) fn print_shortcuts(rt: &impl Print, t: Tally) -> io::Result<()> {
     let counts = t.shortcuts;
-    print_shortcuts_on_orders(counts);
-    print_other_shortcuts(counts);
+    print_shortcuts_on_orders(rt, counts)?;
+    print_other_shortcuts(rt, counts)
 }
 
 // The lines on damaged files that are not refused.
-pub(crate) fn print_damaged(t: Tally) {
-    line(b"green though damaged", t.numbers[0]);
-    line(b"red though damaged", t.numbers[8]);
+pub(crate) fn print_damaged(rt: &impl Print, t: Tally) -> io::Result<()> {
+    line(rt, "green though damaged", t.numbers[0])?;
+    line(rt, "red though damaged", t.numbers[8])
 }
 
 // The lines on refused files.
-pub(crate) fn print_refusals(t: Tally) {
+pub(crate) fn print_refusals(rt: &impl Print, t: Tally) -> io::Result<()> {
     let mut number: usize = 1;
     while number < 8 {
-        io::write_all(1, b"refused with ");
-        io::print_decimal(1, number as u64);
-        line(b"", t.numbers[number]);
+        println!(rt; "refused with {number} {}", t.numbers[number])?;
         number += 1;
     }
+    Ok(())
 }
