@@ -1,4 +1,4 @@
--- What owning a board tells of its lists' lengths: of a parameter from `c.good`, of a call's result from its
+-- What owning a board tells of its lists' lengths: of a parameter from `c.well_formed`, of a call's result from its
 -- `.ok`.
 use mathlib.Core.List.{List}
 use mir.Val.{Val}
