@@ -13,6 +13,7 @@ use Rattle.orders.specs.Orders.{Pool, Failing}
 use Rattle.orders.proofs.Lengths.{failing_length}
 use Rattle.orders.proofs.Plain.{none→green, some→failing}
 use Rattle.orders.proofs.Tests.{clash}
+use Rattle.board.specs.declared.Answer.{Answer}
 use Rattle.board.specs.declared.Board.{Board}
 use Rattle.board.specs.declared.Duty.{Duty}
 use Rattle.board.specs.Answers.{Answers, plain_answer, red_answer}
@@ -135,3 +136,14 @@ module _ (b : Board) (before : List ℕ) where
                         };
                     otherwise = λ q. absurd (q refl);
                   }
+
+-- the answers 9 and 22 for an answer that is known by an equation alone, as `walk` has it
+pub too_short :
+    (b : Board) (before : List ℕ) (r : Answer) → good b ≡ true → length before < max_duties
+    → r ≡ plain_answer answer.list → Walks b before before r
+too_short b before r whole h e = rw e (short b before whole h)
+
+pub too_many :
+    (b : Board) (before : List ℕ) (r : Answer) → good b ≡ true → Sized b → max_duties ≤ length before
+    → most < b.counts.duties → r ≡ plain_answer answer.many → Walks b before before r
+too_many b before r whole size room h e = rw e (many b before whole size room h)

@@ -54,6 +54,7 @@ fn walk_rest(b: Board, left: usize, at: usize, list: &mut [u32]) -> usize
 }
 
 // Walk every order of a board: 19, 9, 22, 8. It only reads the board.
+#[tactic(auto, using(crate::proofs::Answered::too_short, crate::proofs::Answered::too_many))]
 pub fn walk(b: Board, list: &mut [u32]) -> Answer
     ensures { Walks b list.old list.new result }
 {
