@@ -1,7 +1,6 @@
 -- `permissions_from` meets its contract, by arithmetic. Rattle would find it alone; stated, a wrong place is
 -- refused with the numbers that show it.
 use native.Mathlib.Omega.{arith}
-use borrow.Author.Rules.{rules}
 use Rattle.layout.proofs.permissions_from.Goals as goal
 
 pub returns : goal.returns

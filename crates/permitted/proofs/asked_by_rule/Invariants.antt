@@ -1,12 +1,8 @@
 -- `permitted::asked_by_rule` meets its contract. The loop's invariant: what is left of the rules finds what all of
 -- them find.
-use mathlib.Core.Path.{◌≡◌, sym, ap, ◌∙◌}
-use Prim.Native.Nat.{◌≤◌, ◌-◌, min}
-use borrow.Author.Rules.{rules}
-use lib.ListN.{length}
-use Rattle.orders.proofs.Search.{Left, hit, skip, over}
-use Rattle.board.specs.Permitted.{governs, by_rule}
-use Rattle.board.specs.Limits.{max_rules}
+use Prim.Native.Nat.{◌≤◌, ◌-◌}
+use Rattle.orders.proofs.Search.{Left}
+use Rattle.board.specs.Permitted.{governs}
 use Rattle.permitted.proofs.asked_by_rule.Given as goal
 
 abbrev pub invariant-loop-i : goal.invariant-loop-i

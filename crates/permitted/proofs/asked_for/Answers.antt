@@ -1,5 +1,4 @@
 -- `permitted::asked_for` meets its contract: each kind is handed on to the scan of its table.
-use borrow.Author.Rules.{rules}
 use Rattle.permitted.proofs.asked_for.Goals as goal
 
 pub returns-in-Grant : goal.returns-in-Grant

@@ -1,6 +1,5 @@
 -- `permitted::held_by` meets its contract: past the end of the table nothing stands, which reads as the empty set.
 use mathlib.Core.Path.{sym}
-use borrow.Author.Rules.{rules}
 use lib.ListN.{get_or-eq_default}
 use Rattle.permitted.proofs.held_by.Goals as goal
 

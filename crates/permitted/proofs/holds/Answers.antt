@@ -1,6 +1,5 @@
 -- `permitted::holds` meets its contract: the role is looked up in the set that the user holds.
 use mathlib.Core.Path.{ap, ◌∙◌}
-use borrow.Author.Rules.{rules}
 use Prim.Native.Nat.{ℕ}
 use Rattle.roles.specs.Roles.{in_set}
 use Rattle.permitted.proofs.holds.Goals as goal

@@ -6,7 +6,6 @@ use lib.ListN.{get_or}
 use Rattle.board.specs.Permitted.{held_in}
 use Rattle.permitted.specs.Meets.{meets_sets}
 use Rattle.permitted.proofs.RuleNeeds.{role_met, rule_met}
-use borrow.Author.Rules.{rules}
 use Rattle.permitted.proofs.is_met.Goals as goal
 
 pub returns-in-Role : goal.returns-in-Role

@@ -3,7 +3,6 @@ use mathlib.Core.Path.{◌≡◌, ap, ◌∙◌}
 use Prim.Native.Nat.{ℕ}
 use lib.ListN.{get_or, set}
 use Rattle.roles.specs.Roles.{with_role, without_role}
-use borrow.Author.Rules.{rules}
 use Rattle.permitted.proofs.make_change.Goals as goal
 
 pub returns-in-Grant : goal.returns-in-Grant

@@ -3,7 +3,6 @@ use mathlib.Core.Path.{ap, ◌∙◌}
 use Rattle.orders.specs.Needs.{met}
 use Rattle.board.specs.declared.Asked.{Asked}
 use Rattle.board.specs.Permitted.{held_in, needs}
-use borrow.Author.Rules.{rules}
 use Rattle.permitted.proofs.permitted.Goals as goal
 
 pub returns : goal.returns

@@ -1,6 +1,5 @@
 -- `permitted::put_set` meets its contract: past the end of the table nothing is set.
 use mathlib.Core.Path.{sym}
-use borrow.Author.Rules.{rules}
 use lib.Seq.{set_out}
 use Rattle.permitted.proofs.put_set.Goals as goal
 

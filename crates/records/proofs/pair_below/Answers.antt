@@ -1,6 +1,5 @@
 -- `records::pair_below` meets its contract: pairs are ordered as the numbers that they make.
 use mathlib.Core.Path.{sym}
-use borrow.Author.Rules.{rules}
 use Rattle.records.proofs.Pairs.{joined_below}
 use Rattle.records.proofs.pair_below.Goals as goal
 

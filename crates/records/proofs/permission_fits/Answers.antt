@@ -1,5 +1,4 @@
 -- `records::permission_fits` meets its contract: each field is tested.
-use borrow.Author.Rules.{rules}
 use Rattle.records.proofs.permission_fits.Goals as goal
 
 pub returns : goal.returns

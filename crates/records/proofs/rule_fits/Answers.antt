@@ -1,5 +1,4 @@
 -- `records::rule_fits` meets its contract: each field is tested.
-use borrow.Author.Rules.{rules}
 use Rattle.records.proofs.rule_fits.Goals as goal
 
 pub returns : goal.returns

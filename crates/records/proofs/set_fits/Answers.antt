@@ -1,7 +1,6 @@
 -- `records::set_fits` meets its contract: nothing is left of a number shifted by r just if it is below 2 ^ r.
 -- A set is below 2 ^ r for each r from its width on.
 use mathlib.Core.Path.{sym}
-use borrow.Author.Rules.{rules}
 use Rattle.records.proofs.Sets.{shifted_out, all_below}
 use Rattle.records.proofs.set_fits.Goals as goal
 

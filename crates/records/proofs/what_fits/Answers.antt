@@ -1,6 +1,5 @@
 -- `records::what_fits` meets its contract: by the variant.
 use mathlib.Core.Path.{sym, ◌∙◌, ap}
-use borrow.Author.Rules.{rules}
 use Rattle.board.specs.Good.{what_fits}
 use Rattle.records.proofs.what_fits.Goals as goal
 

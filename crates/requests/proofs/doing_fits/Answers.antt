@@ -2,7 +2,6 @@
 use mathlib.Core.Path.{◌∙◌, ap}
 use mathlib.Core.Bool.{◌&&◌}
 use lib.Dec.{ltb}
-use borrow.Author.Rules.{rules}
 use Rattle.board.specs.Good.{what_fits}
 use Rattle.requests.proofs.doing_fits.Goals as goal
 
