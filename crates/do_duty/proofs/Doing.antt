@@ -3,7 +3,7 @@
 -- change, which is the board value that says `did`.
 use mathlib.Core.Path.{◌≡◌, refl, sym, ap, ◌∙◌, subst}
 use mathlib.Core.Logic.{inl, inr}
-use mathlib.Core.Bool.{Bool, true, false, not}
+use mathlib.Core.Bool.{Bool, true, false}
 use mathlib.Core.List.{List, []}
 use Prim.Native.Nat.{ℕ}
 use native.Mathlib.Omega.{arith}
@@ -12,7 +12,7 @@ use Rattle.orders.specs.Lists.{Mem, any}
 use Rattle.orders.specs.Needs.{met}
 use Rattle.orders.proofs.Build.{same_serial}
 use Rattle.orders.proofs.Lists.{any_true, any_mem}
-use Rattle.orders.proofs.Tests.{is_true, clash, not_true, not_false, and_true}
+use Rattle.orders.proofs.Tests.{is_true, clash, and_true}
 use Rattle.board.specs.declared.Answer.{Answer}
 use Rattle.board.specs.declared.Board.{Board}
 use Rattle.board.specs.declared.Duty.{Duty}
@@ -150,11 +150,11 @@ module _ (b : Board) (is_good : good b ≡ true) (q : RequestDo) (d : Duty)
       permitted_is =
           tested ∙ permitted_now_lem b (and_true _ _ (good→filler b is_good)).0 d.doer d.what
 
-      pub may_not : not may ≡ true → Answers (duty_checks b d q.clock) answer.not_permitted
-      may_not e = past_time answer.not_permitted (inl (sym permitted_is ∙ not_true may e, refl))
+      pub may_not : may ≡ false → Answers (duty_checks b d q.clock) answer.not_permitted
+      may_not e = past_time answer.not_permitted (inl (sym permitted_is ∙ e, refl))
 
-      pub may_do : not may ≡ false → Answers (duty_checks b d q.clock) answer.done
-      may_do e = past_time answer.done (inr (λ f. clash (sym permitted_is ∙ not_false may e) f, refl))
+      pub may_do : may ≡ true → Answers (duty_checks b d q.clock) answer.done
+      may_do e = past_time answer.done (inr (λ f. clash (sym permitted_is ∙ e) f, refl))
 
   -- ---- accepted
 
