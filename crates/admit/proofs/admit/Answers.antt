@@ -6,8 +6,8 @@ use Rattle.admit.proofs.Admitting.{refused_admits, whole, few, spare, judged_adm
 use Rattle.admit.proofs.admit.Goals as goal
 use Rattle.admit.proofs.admit.Goals.{Start}
 
-size : (s : Start) → Sized c.args.b
-size s = sized c.args.b _ c.well-formed.0
+size : (c : Start) → Sized c.args.b
+size c = sized c.args.b _ c.well_formed.0
 
 pub returns-then-number-ne-DONE : goal.returns-then-number-ne-DONE
 returns-then-number-ne-DONE c =

@@ -9,17 +9,17 @@ use Rattle.admit.proofs.Admitting.{added}
 use Rattle.admit.proofs.with_duty.Goals as goal
 use Rattle.admit.proofs.with_duty.Goals.{Start}
 
-size : (s : Start) → Sized c.args.b
-size s = sized c.args.b _ c.well-formed.0
+size : (c : Start) → Sized c.args.b
+size c = sized c.args.b _ c.well_formed.0
 
-few : (s : Start) → c.args.b.counts.duties < max_duties
-few s = rw (same_duties c.args.b (size s) c.requires.0).0 c.requires.1
+few : (c : Start) → c.args.b.counts.duties < max_duties
+few c = rw (same_duties c.args.b (size c) c.requires.0).0 c.requires.1
 
 pub bounds-after-at : goal.bounds-after-at
 bounds-after-at c = few (goal.at.bounds-after-at c).Start
 
 pub overflow_add-after : goal.overflow_add-after
-overflow_add-after c = let h = few c.before.before.before in search rules
+overflow_add-after c = let h = few (goal.at.overflow_add-after c).Start in search rules
 
 pub returns : goal.returns
 returns c =
