@@ -8,10 +8,10 @@ use borrow.Author.Tests.{eqb-true, eq-eqb}
 use Rattle.orders.proofs.Tests.{same_test, and_left, and_right, and_both}
 use Rattle.permitted.proofs.is_for.Goals as goal
 
-one-is-both :
+one_is_both :
     (a b c d x y : ℕ) → (x ≡ a + b * 65536) × (a < 65536) → (y ≡ c + d * 65536) × (c < 65536)
     → eqb x y ≡ eqb a c && eqb b d
-one-is-both a b c d x y p q =
+one_is_both a b c d x y p q =
     same_test (eqb x y) (eqb a c && eqb b d)
     (λ e.
     let same = eqb-true x y e in
@@ -25,5 +25,5 @@ one-is-both a b c d x y p q =
 
 pub returns : goal.returns
 returns c =
-    one-is-both c.args.p.action c.args.p.object c.args.action c.args.object _ _ c.in_one.ensures
+    one_is_both c.args.p.action c.args.p.object c.args.action c.args.object _ _ c.in_one.ensures
     c.in_one-2.ensures

@@ -7,7 +7,7 @@ use borrow.Author.Rules.{rules}
 use Rattle.orders.proofs.Loops.{none_next, some_at}
 use Rattle.board.specs.Limits.{max_duties}
 use Rattle.pool.proofs.Turns.{in_turn, at_end, same_first}
-use Rattle.pool.proofs.is_held_back.Invariants.{holdsBack}
+use Rattle.pool.proofs.is_held_back.Invariants.{holds_back}
 use Rattle.pool.proofs.is_held_back.Goals as goal
 use Rattle.pool.proofs.is_held_back.Goals.{In-loop-i}
 
@@ -33,7 +33,7 @@ returns-then-wholly_before c =
     let l = c.loop-i in
     let h = within (goal.at.returns-then-wholly_before c).In-loop-i in
     let passes = sym c.wholly_before.ensures ∙ c.if-wholly_before.true in
-    sym (some_at (holdsBack c.args.d) c.args.duties c.args.n l.i _ (omega arith) (omega arith) passes)
+    sym (some_at (holds_back c.args.d) c.args.duties c.args.n l.i _ (omega arith) (omega arith) passes)
 
 pub overflow_add-i : goal.overflow_add-i
 overflow_add-i c = let h = within c.before.before.before in search rules
@@ -46,7 +46,7 @@ loop-i-preserved c =
     let l = c.loop-i in
     let h = within (goal.at.loop-i-preserved c).In-loop-i in
     let fails = sym c.wholly_before.ensures ∙ c.if-wholly_before.false in
-    (omega arith, none_next (holdsBack c.args.d) c.args.duties l.i _ (omega arith) l.invariant.1 fails)
+    (omega arith, none_next (holds_back c.args.d) c.args.duties l.i _ (omega arith) l.invariant.1 fails)
 
 pub returns : goal.returns
 returns c =

@@ -10,7 +10,7 @@ use Rattle.orders.proofs.Loops.{none_next}
 use Rattle.orders.proofs.Tests.{clash}
 use Rattle.board.specs.Limits.{max_duties}
 use Rattle.pool.proofs.Turns.{in_turn, at_end, same_first}
-use Rattle.trails.proofs.place_of.Invariants.{hasSerial}
+use Rattle.trails.proofs.place_of.Invariants.{has_serial_lem}
 use Rattle.trails.proofs.place_of.Goals as goal
 use Rattle.trails.proofs.place_of.Goals.{In-loop-i}
 
@@ -47,7 +47,7 @@ loop-i-preserved c =
     let l = c.loop-i in
     let h = within (goal.at.loop-i-preserved c).In-loop-i in
     let fails = ne_eqb _ _ c.if-own-serial.false in
-    (omega arith, none_next (hasSerial c.args.serial.0) c.args.duties l.i _ (omega arith) l.invariant.1 fails)
+    (omega arith, none_next (has_serial_lem c.args.serial.0) c.args.duties l.i _ (omega arith) l.invariant.1 fails)
 
 pub returns : goal.returns
 returns c =
@@ -58,5 +58,5 @@ returns c =
     record {
       room = λ k. absurd (omega arith);
       has = λ k. absurd (omega arith);
-      none = λ k y m e. clash (eq-eqb _ _ e) (any_false (hasSerial c.args.serial.0) missed m);
+      none = λ k y m e. clash (eq-eqb _ _ e) (any_false (has_serial_lem c.args.serial.0) missed m);
     }

@@ -8,11 +8,11 @@ use Rattle.orders.specs.Lists.{any}
 use Rattle.board.specs.declared.Duty.{Duty}
 use Rattle.trails.proofs.place_of.Given as goal
 
-abbrev pub hasSerial : ℕ → Duty → Bool
-hasSerial serial d = eqb d.serial.0 serial
+abbrev pub has_serial_lem : ℕ → Duty → Bool
+has_serial_lem serial d = eqb d.serial.0 serial
 
 abbrev pub invariant-loop-i : goal.invariant-loop-i
-invariant-loop-i l = (l.i ≤ l.n) × (any (hasSerial l.serial.0) (take l.i l.duties) ≡ false)
+invariant-loop-i l = (l.i ≤ l.n) × (any (has_serial_lem l.serial.0) (take l.i l.duties) ≡ false)
 
 abbrev pub decreases-loop-i : goal.decreases-loop-i
 decreases-loop-i l = l.n - l.i

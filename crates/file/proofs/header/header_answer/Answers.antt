@@ -19,30 +19,30 @@ passed : {result test : Bool} → result ≡ test → result ≡ true → test �
 passed e n f = clash (sym e ∙ n) f
 
 -- the checks from one on
-abbrev fromCount : List ℕ → List Check
-fromCount s = drop 2 (header_checks s)
+abbrev from_count : List ℕ → List Check
+from_count s = drop 2 (header_checks s)
 
-abbrev fromLayout : List ℕ → List Check
-fromLayout s = drop 3 (header_checks s)
+abbrev from_layout : List ℕ → List Check
+from_layout s = drop 3 (header_checks s)
 
-abbrev fromLong : List ℕ → List Check
-fromLong s = drop 4 (header_checks s)
+abbrev from_long : List ℕ → List Check
+from_long s = drop 4 (header_checks s)
 
 -- where the checks before them do not apply, they answer
 past_version :
-    (c : Else-two_at-ne-VERSION) {n : ℕ} → Answers (fromCount c.args.s.now) n
+    (c : Else-two_at-ne-VERSION) {n : ℕ} → Answers (from_count c.args.s.now) n
     → Answers (header_checks c.args.s.now) n
 past_version c rest =
     inr (λ h. omega arith, inr (λ h. h (sym c.two_at.ensures ∙ c.if-two_at-ne-VERSION.false), rest))
 
 past_count :
-    (c : Else-not-counts_right) {n : ℕ} → Answers (fromLayout c.args.s.now) n
-    → Answers (fromCount c.args.s.now) n
+    (c : Else-not-counts_right) {n : ℕ} → Answers (from_layout c.args.s.now) n
+    → Answers (from_count c.args.s.now) n
 past_count c rest = inr (passed c.counts_right.ensures c.if-not-counts_right.false, rest)
 
 past_layout :
-    (c : Else-not-laid_out) {n : ℕ} → Answers (fromLong c.args.s.now) n
-    → Answers (fromLayout c.args.s.now) n
+    (c : Else-not-laid_out) {n : ℕ} → Answers (from_long c.args.s.now) n
+    → Answers (from_layout c.args.s.now) n
 past_layout c rest = inr (passed c.laid_out.ensures c.if-not-laid_out.false, rest)
 
 pub returns-then-s-lt-HEADER : goal.returns-then-s-lt-HEADER
