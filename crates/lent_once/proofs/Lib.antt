@@ -1,2 +1,0 @@
-pub mod Lending
-pub mod Once
