@@ -10,6 +10,7 @@ use outcomes::Outcome;
 use requests::RequestAct;
 
 // 19, 9, 10, 11, 15, or 0 where none of these applies.
+#[tactic(auto, using(crate::proofs::Refusing::answers_15, crate::proofs::Refusing::answers_0))]
 fn refusal(b: Board, room: usize, q: RequestAct) -> u8
     ensures { Answers (act_earlier b room q) result }
 {

@@ -1,6 +1,5 @@
 -- `act::act` meets its contract: an earlier check refuses, or the board with the change made is judged.
 use mathlib.Core.Path.{ap, ◌∙◌}
-use borrow.Author.Rules.{rules}
 use Rattle.board.specs.Filler.{Sized}
 use Rattle.board.proofs.Sized.{sized}
 use Rattle.after.specs.Boards.{acted_board}
