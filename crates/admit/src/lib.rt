@@ -31,6 +31,7 @@ fn duty_asked(q: RequestAdmit, serial: Serial) -> Duty
 }
 
 // 19, 9, 10, 11, 7, 21, 16, 17, or 0 where none of these applies.
+#[tactic(auto, using(crate::proofs::Refusing::answers_17, crate::proofs::Refusing::answers_0))]
 fn refusal(b: Board, room: usize, q: RequestAdmit) -> u8
     ensures { Answers (admit_earlier b room q) result }
 {

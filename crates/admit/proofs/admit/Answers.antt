@@ -1,5 +1,4 @@
 -- `admit::admit` meets its contract: an earlier check refuses, or the board with the duty added is judged.
-use borrow.Author.Rules.{rules}
 use Rattle.board.specs.Filler.{Sized}
 use Rattle.board.proofs.Sized.{sized}
 use Rattle.admit.proofs.Admitting.{refused_admits, whole, few, spare, judged_admits}

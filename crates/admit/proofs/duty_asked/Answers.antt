@@ -1,5 +1,4 @@
 -- `admit::duty_asked` meets its contract: what is to be done is what the numbers say.
-use borrow.Author.Rules.{rules}
 use Rattle.admit.proofs.duty_asked.Goals as goal
 
 pub returns : goal.returns
