@@ -30,6 +30,7 @@ pub fn refused(b: Board, number: u8) -> Outcome
 
 // Judge the board after a call, which is good: where it is green the call is accepted, with this serial; else
 // it is refused.
+#[tactic(auto, using(crate::proofs::Judging::judged_refused, crate::proofs::Judging::judged_accepted))]
 pub fn judged(b: Board, after: Board, serial: Serial, list: &mut [u32]) -> Outcome
     ensures { good after ≡ true → Judges b after serial.0 list.old list.new result }
 {

@@ -1,5 +1,4 @@
 -- `outcomes::refused` meets its contract: it is made of the plain answer and the board given.
-use borrow.Author.Rules.{rules}
 use Rattle.outcomes.proofs.refused.Goals as goal
 
 pub returns : goal.returns
