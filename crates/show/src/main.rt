@@ -2,11 +2,11 @@
 // lower serials first, then how many lines there are and the verdict. docs/SHOW.md says how to read it.
 #![tactic(auto)]
 
-mod orders;
+mod walk;
 
 use board::{Answer, Board};
-use orders::{MOST_LINES, empty, show_rest};
 use std::io;
+use walk::{MOST_LINES, empty, show_rest};
 
 // Print how many lines were left out, if some were, and how many there are.
 fn print_count(rt: &impl Print, orders: u32) -> io::Result<()> {

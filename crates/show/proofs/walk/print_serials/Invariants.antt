@@ -1,6 +1,6 @@
 -- `print_serials` is safe and ends: i counts up to the count, which is at most the room.
 use Rattle.std.proofs.Common.{◌-◌, ◌≤◌}
-use Rattle.show.proofs.orders.print_serials.Given as goal
+use Rattle.show.proofs.walk.print_serials.Given as goal
 
 abbrev pub invariant-loop-i : goal.invariant-loop-i
 invariant-loop-i g l = (l.i ≤ l.count) × (l.count ≤ 8)
