@@ -1,6 +1,5 @@
 """How bin/run-program builds: in a repository with a kit that builds at once, or slowly, or not at all."""
 import os
-import platform
 import shutil
 import signal
 import subprocess
@@ -15,10 +14,11 @@ echo "$PWD $*" >>"$NOTES"
 echo "some line of the build"
 sleep "${SECONDS_TO_BUILD:-0}"
 [ -z "${BUILD_FAILS:-}" ] || exit 1
-mkdir -p target/bin
-printf '#!/bin/sh\\n%s\\n' "${PROGRAM:-echo yes 0}" >target/bin/tick
-chmod +x target/bin/tick
+mkdir -p out
+printf '#!/bin/sh\\n%s\\n' "${PROGRAM:-echo yes 0}" >out/tick
+chmod +x out/tick
 '''
+LOADER_FILE = 'toolchain/lib/ld-linux-x86-64.so.2'
 LOADER = '#!/bin/sh\nshift 2\nexec "$@"\n'
 
 
@@ -37,7 +37,7 @@ class Build(FolderTest):
 
     def kit(self, name):
         self.write(f'{name}/bin/rt', RT, 0o755)
-        self.write(f'{name}/on/{platform.machine()}/toolchain/lib/ld-linux-x86-64.so.2', LOADER, 0o755)
+        self.write(f'{name}/{LOADER_FILE}', LOADER, 0o755)
 
     def start(self, **environment):
         return subprocess.Popen([self.path('repo/bin/tick')], env={**self.environment, **environment},
@@ -62,7 +62,7 @@ class Build(FolderTest):
         self.ends(self.tick(), 0, 'yes 0\n', '')
         self.assertEqual(self.builds(), 1)
         self.assertEqual(read(self.path('notes')).decode(),
-                         os.path.realpath(self.path('repo')) + ' check tick\n')
+                         os.path.realpath(self.path('repo/crates/tick')) + ' run\n')
 
     def test_the_log_is_in_a_file(self):
         self.tick()
@@ -73,7 +73,7 @@ class Build(FolderTest):
                      lambda: self.write('repo/crates.txt', 'tick: \n'),
                      lambda: self.write('repo/crates/tick/src/more.rt', ''),
                      lambda: os.unlink(self.path('repo/crates/tick/src/more.rt')),
-                     lambda: os.unlink(self.path('repo/target/bin/tick'))):
+                     lambda: os.unlink(self.path('repo/crates/tick/out/tick'))):
             self.ends(self.tick(), 0, 'yes 0\n')
             time.sleep(0.02)
             edit()
@@ -147,7 +147,7 @@ class Build(FolderTest):
         os.makedirs(self.path('other/repo/bin'))
         ran = run(['repo/bin/tick'], cwd=self.folder, env={**self.environment, 'CDPATH': self.path('other')})
         self.ends(ran, 0, 'yes 0\n', BUILDING)
-        self.assertEqual(read(self.path('notes')).decode(), self.path('repo') + ' check tick\n')
+        self.assertEqual(read(self.path('notes')).decode(), self.path('repo/crates/tick') + ' run\n')
 
     def test_rt_through_a_link(self):
         os.mkdir(self.path('links'))
@@ -156,7 +156,7 @@ class Build(FolderTest):
         self.ends(self.tick(PATH=path), 0, 'yes 0\n', BUILDING)
 
     def test_a_kit_without_this_machine(self):
-        loader = self.path(f'kit/on/{platform.machine()}/toolchain/lib/ld-linux-x86-64.so.2')
+        loader = self.path('kit', LOADER_FILE)
         os.unlink(loader)
         self.ends(self.tick(), 2, '', f'tick: the Rattle kit has nothing for this machine: no {loader}\n')
 
@@ -169,17 +169,14 @@ class Build(FolderTest):
 
     def test_the_kit_that_is_named(self):
         self.kit('other')
-        os.unlink(self.path(f'kit/on/{platform.machine()}/toolchain/lib/ld-linux-x86-64.so.2'))
+        os.unlink(self.path('kit', LOADER_FILE))
         self.ends(self.tick(RATTLE_HOME=self.path('none')), 2, '',
                   f'tick: there is no folder {self.path("none")} (RATTLE_HOME)\n')
         self.ends(self.tick(RATTLE_HOME=self.path('other')), 0, 'yes 0\n', BUILDING)
         self.ends(self.tick(), 0, 'yes 0\n', '')
 
     def test_the_emulator_on_arm(self):
-        self.write('kit/bin/uname', '#!/bin/sh\necho aarch64\n', 0o755)
-        self.write('kit/on/aarch64/toolchain/lib/ld-linux-x86-64.so.2', LOADER, 0o755)
-        self.write('kit/on/aarch64/toolchain/bin/qemu-x86_64', '#!/bin/sh\necho emulated >&2\nexec "$@"\n',
-                   0o755)
+        self.write('kit/toolchain/bin/qemu-x86_64', '#!/bin/sh\necho emulated >&2\nexec "$@"\n', 0o755)
         self.ends(self.tick(), 0, 'yes 0\n', BUILDING + 'emulated\n')
 
     def test_a_program_that_gives_no_verdict(self):
