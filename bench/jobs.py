@@ -64,7 +64,7 @@ class Line:
 def compared(job, proved, rust):
     """Whether the two lines are the same word for word. Where only the failing orders differ (any true one is
     right: rule 12.2) both have to be true ones; every other difference is an error."""
-    a, b = Line(proved), Line(Rust)
+    a, b = Line(proved), Line(rust)
     same = (a.number, a.serial, a.rest) == (b.number, b.serial, b.rest)
     if same and a.number == RED:
         after = job.after()

@@ -122,7 +122,7 @@ fn run(job: &[u8], line: &mut Vec<u8>) {
         answer = match kind {
             0 => {
                 bytes[FILE_AT + 12] ^= change;
-                open::open(board, black_box(&bytes[FILE_AT..length]), list)
+                calls::open(board, black_box(&bytes[FILE_AT..length]), list)
             }
             1 => {
                 board.clock ^= u32::from(change);
