@@ -36,4 +36,4 @@ module _ (c : Call) (b : Board) (l : List ℕ) (n : c.Asked) (r : Outcome) (l' :
       by_test r.accepted
       (λ on. let P = λ (a : Bool). Leaves (cond a r.board b) in subst P (sym on) promised)
       (λ off. let P = λ (a : Bool). Leaves (cond a r.board b) in
-          subst P (sym off) (stays promised flagged off))
+      subst P (sym off) (stays promised flagged off))
