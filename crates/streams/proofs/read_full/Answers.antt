@@ -22,6 +22,6 @@ loop-done-preserved g c =
       same_length = search rules;
       within = search rules;
       read =
-        subst (Consumes _ _) (sym (take_read _ _ _ _ c.in_ok-n.n front c.in_ok-n.ensures.bound.0))
-        (Consumes-trans _ _ _ _ _ before.read bytes);
+          subst (Consumes _ _) (sym (take_read _ _ _ _ c.in_ok-n.n front c.in_ok-n.ensures.bound.0))
+          (Consumes-trans _ _ _ _ _ before.read bytes);
     }
