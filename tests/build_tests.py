@@ -73,6 +73,8 @@ class Build(FolderTest):
                      lambda: self.write('repo/crates.txt', 'tick: \n'),
                      lambda: self.write('repo/crates/tick/src/more.rt', ''),
                      lambda: os.unlink(self.path('repo/crates/tick/src/more.rt')),
+                     lambda: self.write('repo/crates/tick/specs/Lib.antt', ''),
+                     lambda: shutil.rmtree(self.path('repo/crates/tick/specs')),
                      lambda: os.unlink(self.path('repo/crates/tick/out/tick'))):
             self.ends(self.tick(), 0, 'yes 0\n')
             time.sleep(0.02)
