@@ -1,7 +1,7 @@
 // What the programs do with standard input: a reader's bytes go to the start of a room.
 #![tactic(auto)]
 
-ghost use Rattle.std.specs.Prelude.{◌≡◌, ◌<◌, ◌≤◌, length, take, IfOk};
+ghost use Rattle.std.specs.Prelude.{◌≡◌, ℕ, ◌<◌, ◌≤◌, length, take, IfOk, OnErr};
 ghost use Rattle.std.specs.Io.KnownBytes.{Consumes, IsAtEnd};
 
 use std::io;
@@ -10,11 +10,13 @@ use std::io::Read;
 // Reads until the room is full or the input ends, and answers how many bytes it put at the start of the room.
 // These are the next bytes of the reader, in their order, and there are fewer than the room holds only where
 // the input ends with them. A read that fails ends it with that error; the bytes that were read before then
-// are not told from the rest of the room.
+// stand at the start of the room, but how many they were is not told.
 pub fn read_full<R: Read>(reader: &mut R, room: &mut [u8]) -> io::Result<usize>
     ensures within { IfOk result (λ n. n ≤ length room.new) }
     ensures room { length room.new ≡ length room.old }
     ensures bytes { IfOk result (λ n. Consumes (R.remaining reader.old) (R.remaining reader.new) (take n room.new)) }
+    ensures failed { OnErr result ((n : ℕ) × (n ≤ length room.new)
+        × Consumes (R.remaining reader.old) (R.remaining reader.new) (take n room.new)) }
     ensures end { IfOk result (λ n. n < length room.new → IsAtEnd (R.remaining reader.new)) }
 {
     let mut done = 0;
