@@ -1,7 +1,11 @@
--- What admit, act and withdraw ask and promise, for the law that they share.
-use Rattle.requests.specs.declared.RequestAct.{RequestAct}
-use Rattle.requests.specs.declared.RequestAdmit.{RequestAdmit}
-use Rattle.requests.specs.declared.RequestWithdraw.{RequestWithdraw}
+-- What admit, act and withdraw ask and promise, for the walk that they share.
+use mathlib.Core.Path.{refl}
+use Rattle.requests.specs.contracts.RequestAdmit as RequestAdmit
+use Rattle.requests.proofs.RequestAdmit.TheLaws as RequestAdmit'
+use Rattle.requests.specs.contracts.RequestAct as RequestAct
+use Rattle.requests.proofs.RequestAct.TheLaws as RequestAct'
+use Rattle.requests.specs.contracts.RequestWithdraw as RequestWithdraw
+use Rattle.requests.proofs.RequestWithdraw.TheLaws as RequestWithdraw'
 use Rattle.act.specs.ActsNow.{ActsNow}
 use Rattle.admit.specs.Admits.{Admits}
 use Rattle.withdraw.specs.Withdraws.{Withdraws}
@@ -9,21 +13,33 @@ use Rattle.lending.proofs.Layer.{Call}
 
 abbrev pub admitting : Call
 admitting = record {
-  Asked = RequestAdmit;
+  asked = RequestAdmit.the_type;
+  laws = RequestAdmit'.the_laws;
+  plains = RequestAdmit'.the_plain;
+  last = λ _. tt;
+  silent = λ _ _. refl;
   Promise = Admits;
   kept = λ b l n a b' l' promised f. (promised.refused f).0;
 }
 
 abbrev pub acting : Call
 acting = record {
-  Asked = RequestAct;
+  asked = RequestAct.the_type;
+  laws = RequestAct'.the_laws;
+  plains = RequestAct'.the_plain;
+  last = λ _. tt;
+  silent = λ _ _. refl;
   Promise = ActsNow;
   kept = λ b l n a b' l' promised f. (promised.refused f).0;
 }
 
 abbrev pub withdrawing : Call
 withdrawing = record {
-  Asked = RequestWithdraw;
+  asked = RequestWithdraw.the_type;
+  laws = RequestWithdraw'.the_laws;
+  plains = RequestWithdraw'.the_plain;
+  last = λ _. tt;
+  silent = λ _ _. refl;
   Promise = Withdraws;
   kept = λ b l n a b' l' promised f. (promised.refused f).0;
 }
