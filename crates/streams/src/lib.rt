@@ -10,12 +10,14 @@ use std::io::Read;
 // Reads until the room is full or the input ends, and answers how many bytes it put at the start of the room.
 // These are the next bytes of the reader, in their order, and there are fewer than the room holds only where
 // the input ends with them. A read that fails ends it with that error; the bytes that were read before then
-// stand at the start of the room, but how many they were is not told.
+// stand at the start of the room, which was not full, but how many they were is not told. That it fails only
+// where a read does no clause can say, since no clause of `Read` says when that is: the programs' runs show it.
 pub fn read_full<R: Read>(reader: &mut R, room: &mut [u8]) -> io::Result<usize>
     ensures within { IfOk result (λ n. n ≤ length room.new) }
     ensures room { length room.new ≡ length room.old }
-    ensures bytes { IfOk result (λ n. Consumes (R.remaining reader.old) (R.remaining reader.new) (take n room.new)) }
-    ensures failed { OnErr result ((n : ℕ) × (n ≤ length room.new)
+    ensures bytes { IfOk result (λ n.
+        Consumes (R.remaining reader.old) (R.remaining reader.new) (take n room.new)) }
+    ensures failed { OnErr result ((n : ℕ) × (n < length room.new)
         × Consumes (R.remaining reader.old) (R.remaining reader.new) (take n room.new)) }
     ensures end { IfOk result (λ n. n < length room.new → IsAtEnd (R.remaining reader.new)) }
 {
