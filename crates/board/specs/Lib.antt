@@ -4,6 +4,7 @@ pub mod View
 pub mod Windows
 pub mod Good
 pub mod Permitted
+pub mod Refusals
 pub mod Doing
 pub mod Green
 pub mod Sentences

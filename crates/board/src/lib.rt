@@ -5,13 +5,15 @@
 ghost use Rattle.std.specs.Prelude.{◌≡◌, min};
 ghost use Rattle.board.specs.Answers.{plain_answer, done_answer, written_answer, red_answer};
 ghost use Rattle.board.specs.Filler.{no_permission, no_rule, no_duty, smallest_board};
+ghost use Rattle.board.specs.Refusals.{number_of, refused_answer};
+ghost use Rattle.board.specs.View.{view};
 
 // A duty is called by its serial and never by its place in the pool.
-#[derive(Clone, Copy)]
+#[derive(Clone, Copy, PartialEq, Eq, PartialOrd, Ord)]
 pub struct Serial(pub u32);
 
 // What is to be done.
-#[derive(Clone, Copy)]
+#[derive(Clone, Copy, PartialEq, Eq)]
 pub enum What {
     Grant { target: u16, role: u16 },
     Revoke { target: u16, role: u16 },
@@ -19,7 +21,7 @@ pub enum What {
 }
 
 // A duty: who is to do what, from start to end.
-#[derive(Clone, Copy)]
+#[derive(Clone, Copy, PartialEq, Eq)]
 pub struct Duty {
     pub serial: Serial,
     pub doer: u16,
@@ -29,7 +31,7 @@ pub struct Duty {
 }
 
 // A use of the action on the object needs the role.
-#[derive(Clone, Copy)]
+#[derive(Clone, Copy, PartialEq, Eq)]
 pub struct Permission {
     pub role: u16,
     pub action: u16,
@@ -38,7 +40,7 @@ pub struct Permission {
 
 // Who holds the actor role may assign (kind 0) or revoke (kind 1) the role for a target that holds every
 // wanted role and no barred one.
-#[derive(Clone, Copy)]
+#[derive(Clone, Copy, PartialEq, Eq)]
 pub struct Rule {
     pub kind: u16,
     pub actor: u16,
@@ -57,7 +59,7 @@ pub enum Asked {
 }
 
 // How many there are of each. Room beyond a count holds the filler.
-#[derive(Clone, Copy)]
+#[derive(Clone, Copy, PartialEq, Eq)]
 pub struct Counts {
     pub users: u16,
     pub roles: u16,
@@ -138,6 +140,38 @@ impl Board {
 
     pub const OBJECTS: u16 = 256;
 
+    // The sets of roles of the users, so many as there are and the board has room for.
+    pub fn users(&self) -> &[u32]
+        ensures { result.now ≡ (view self.now).holdings }
+    {
+        let count = (self.counts.users as usize).min(Board::USERS);
+        &self.holdings[..count]
+    }
+
+    // The permissions.
+    pub fn permissions(&self) -> &[Permission]
+        ensures { result.now ≡ (view self.now).permissions }
+    {
+        let count = (self.counts.permissions as usize).min(Board::PERMISSIONS);
+        &self.permissions[..count]
+    }
+
+    // The rules.
+    pub fn rules(&self) -> &[Rule]
+        ensures { result.now ≡ (view self.now).rules }
+    {
+        let count = (self.counts.rules as usize).min(Board::RULES);
+        &self.rules[..count]
+    }
+
+    // The open duties.
+    pub fn duties(&self) -> &[Duty]
+        ensures { result.now ≡ (view self.now).duties }
+    {
+        let count = (self.counts.duties as usize).min(Board::DUTIES);
+        &self.duties[..count]
+    }
+
     // One user with no role, one role, clock 0, next serial 1, nothing else.
     pub fn smallest() -> Self
         ensures { result ≡ smallest_board }
@@ -176,6 +210,83 @@ pub struct Answer {
     pub number: u8,
     pub serial: Serial,
     pub length: usize,
+}
+
+// Why a call is refused. A red board comes with the length of a failing order, whose serials stand at the start
+// of the lent list.
+#[derive(Clone, Copy, PartialEq, Eq)]
+pub enum Refusal {
+    Short,
+    Version,
+    Count,
+    Layout,
+    Field,
+    NotAbove,
+    Window,
+    Red { length: usize },
+    List,
+    Clock,
+    Request,
+    NotOpen,
+    Outside,
+    HeldBack,
+    NotPermitted,
+    Full,
+    Spent,
+    Long,
+    Broken,
+    Room,
+    Over,
+    Many,
+}
+
+impl Refusal {
+    // Its number.
+    pub fn number(self) -> u8
+        ensures { result ≡ number_of self }
+    {
+        match self {
+            Refusal::Short => Answer::SHORT,
+            Refusal::Version => Answer::VERSION,
+            Refusal::Count => Answer::COUNT,
+            Refusal::Layout => Answer::LAYOUT,
+            Refusal::Field => Answer::FIELD,
+            Refusal::NotAbove => Answer::NOT_ABOVE,
+            Refusal::Window => Answer::WINDOW,
+            Refusal::Red { length: _ } => Answer::RED,
+            Refusal::List => Answer::LIST,
+            Refusal::Clock => Answer::CLOCK,
+            Refusal::Request => Answer::REQUEST,
+            Refusal::NotOpen => Answer::NOT_OPEN,
+            Refusal::Outside => Answer::OUTSIDE,
+            Refusal::HeldBack => Answer::HELD_BACK,
+            Refusal::NotPermitted => Answer::NOT_PERMITTED,
+            Refusal::Full => Answer::FULL,
+            Refusal::Spent => Answer::SPENT,
+            Refusal::Long => Answer::LONG,
+            Refusal::Broken => Answer::BROKEN,
+            Refusal::Room => Answer::ROOM,
+            Refusal::Over => Answer::OVER,
+            Refusal::Many => Answer::MANY,
+        }
+    }
+}
+
+impl From<Refusal> for Answer {
+    // What a refused call answers: no serial, and with a red board the length of the failing order.
+    ghost from_gives = { λ e r. r ≡ refused_answer e };
+
+    fn from(refusal: Refusal) -> Self {
+        let length = match refusal {
+            Refusal::Red { length } => length,
+            _ => 0,
+        };
+        Answer {
+            number: refusal.number(),
+            serial: Serial(0),
+            length,
+        }
+    }
 }
 
 impl Answer {
