@@ -2,7 +2,7 @@
 -- duty; and so for one duty after the other.
 use mathlib.Core.Path.{◌≡◌, refl, sym, ◌∙◌, ap}
 use mathlib.Core.Bool.{true}
-use mathlib.Core.Option.{Option, none, some}
+use Rattle.std.specs.Prelude.{Option, None, Some}
 use mathlib.Core.List.{List, [], ◌∷◌}
 use Prim.Native.Nat.{ℕ, ◌+◌, ◌≤◌, ◌<◌, min}
 use native.Mathlib.Omega.{arith}
@@ -67,8 +67,8 @@ rule_asks target r = in_one_form target (by_rule target r)
 
 -- a rule asks the same whoever the doer is
 whoever : (doer target : ℕ) (r : Option Rule) → in_one_form doer (by_rule target r) ≡ rule_asks target r
-whoever doer target none = refl
-whoever doer target (some r) = refl
+whoever doer target None = refl
+whoever doer target (Some r) = refl
 
 module _ (v : View) (d : Duty) where
   pub granted :
@@ -96,7 +96,7 @@ module _ {A : Type 0} {first second : A → ℕ} {l whole : List A} {n : ℕ}
   asked_there h e = e ∙ sym (is ∙ ap asks (find_there known z stand a b halved h))
 
   -- and where there is none, what is asked without a record
-  pub asked_nowhere : n ≤ at → ask ≡ asks none → ask ≡ asked
+  pub asked_nowhere : n ≤ at → ask ≡ asks None → ask ≡ asked
   asked_nowhere h e = e ∙ sym (is ∙ ap asks (find_nowhere known z stand a b halved h))
 
 -- ---- one duty after the other

@@ -3,7 +3,7 @@
 use mathlib.Core.Path.{◌≡◌, ◌∙◌, ap}
 use mathlib.Core.Logic.{⊎_elim}
 use mathlib.Core.Bool.{Bool, true, ◌&&◌}
-use mathlib.Core.Option.{none}
+use Rattle.std.specs.Prelude.{None}
 use mathlib.Core.List.{List, [], ◌∷◌}
 use Prim.Native.Nat.{ℕ, zero, suc, ◌-◌, ◌≤◌, ◌<◌}
 use native.Mathlib.Nat.{le_of_suc-le-suc, not-suc-le-zero}
@@ -131,7 +131,7 @@ module _ {A : Type 0} {first second : A → ℕ} {l whole : List A} {n : ℕ}
         (find_case sought whole)
 
     -- and where no record stands there they find none
-    pub find_nowhere : n ≤ at → find (has_both first second a b) whole ≡ none
+    pub find_nowhere : n ≤ at → find (has_both first second a b) whole ≡ None
     find_nowhere h =
         ⊎_elim
         (λ r. r.finds)

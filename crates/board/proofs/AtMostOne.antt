@@ -3,7 +3,7 @@
 use mathlib.Core.Path.{◌≡◌, sym, ◌∙◌}
 use mathlib.Core.Logic.{◌↔◌, ⊎_elim}
 use mathlib.Core.Bool.{Bool, true, false, ◌&&◌}
-use mathlib.Core.Option.{Option, none, some}
+use Rattle.std.specs.Prelude.{Option, None, Some}
 use mathlib.Core.List.{List, [], ◌∷◌}
 use Prim.Native.Nat.{ℕ}
 use lib.Dec.{eqb}
@@ -65,10 +65,10 @@ module _ {A : Type 0} (fst snd : A → ℕ) (a b : ℕ) (l : List A) (says : Opt
   has_both x = eqb (fst x) a && eqb (snd x) b
 
   abbrev pub Said : Type 0
-  Said = (x : A) × Mem x l × (fst x ≡ a) × (snd x ≡ b) × (says (some x) ≡ true)
+  Said = (x : A) × Mem x l × (fst x ≡ a) × (snd x ≡ b) × (says (Some x) ≡ true)
 
   pub find_says :
-      ((x y : A) → Mem x l → Mem y l → fst x ≡ fst y → snd x ≡ snd y → x ≡ y) → says none ≡ false
+      ((x y : A) → Mem x l → Mem y l → fst x ≡ fst y → snd x ≡ snd y → x ≡ y) → says None ≡ false
       → says (find has_both l) ≡ true ↔ Said
   find_says unique nothing = (
     λ e. ⊎_elim (λ r. clash (rw r.finds at e) nothing) (said e) (find_case has_both l),

@@ -3,7 +3,7 @@
 use mathlib.Core.Path.{◌≡◌, refl, subst}
 use mathlib.Core.Logic.{◌↔◌, ⊎_elim}
 use mathlib.Core.Bool.{Bool, true, false, beq}
-use mathlib.Core.Option.{some}
+use Rattle.std.specs.Prelude.{Some}
 use mathlib.Core.List.Memᴰ
 use mathlib.Core.List.{
   List,
@@ -27,7 +27,7 @@ module _ (s : Holding → Bool) where
   -- every need of the list is met
   pub all_met :
       (l : List (Holding × Bool))
-      → met s (some l) ≡ true ↔ ((n : Holding × Bool) → Mem n l → s n.0 ≡ n.1)
+      → met s (Some l) ≡ true ↔ ((n : Holding × Bool) → Mem n l → s n.0 ≡ n.1)
   all_met l = (
     λ e n m. beq_true (s n.0) n.1 (all_mem (λ n. beq (s n.0) n.1) e m),
     λ f. all_in (λ n. beq (s n.0) n.1) l (λ n m. rw (f n m) (beq_refl n.1)),
@@ -65,7 +65,7 @@ module _ (s : Holding → Bool) where
       list : List (Holding × Bool)
       list = ((doer, rule.actor), true) ∷ (wants ++ bars)
 
-      forth : met s (some list) ≡ true → MeetsRule s doer target rule
+      forth : met s (Some list) ≡ true → MeetsRule s doer target rule
       forth e =
           let f = (all_met list).0 e in
           record {

@@ -4,7 +4,7 @@
 use mathlib.Core.Path.{◌≡◌, refl}
 use mathlib.Core.Logic.{◌↔◌}
 use mathlib.Core.Bool.{Bool, true}
-use mathlib.Core.Option.{Option}
+use Rattle.std.specs.Prelude.{Option}
 use mathlib.Core.List.{List, [], ◌∷◌}
 use Prim.Native.Nat.{ℕ}
 use Rattle.orders.specs.Lists.{here, find}

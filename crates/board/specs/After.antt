@@ -2,7 +2,7 @@
 -- that a board says, so that one sees what changed and that nothing else did. The clock becomes the call's
 -- clock.
 use Rattle.std.specs.Prelude.{Bool, not, List, [], ◌∷◌, ◌++◌, ℕ, ◌+◌, eqb, length}
-use Rattle.std.proofs.Math.Option.{Option, none, some}
+use Rattle.std.specs.Prelude.{Option, None, Some}
 use Rattle.orders.specs.Lists.{keep, find}
 use Rattle.board.specs.declared.Duty.{Duty}
 use Rattle.board.specs.declared.What.{What}
@@ -89,8 +89,8 @@ withdrawn v clock serial =
 
 -- the sets of roles once this duty, if there is one, was done
 abbrev pub changed_by : List ℕ → Option Duty → List ℕ
-changed_by sets none = sets
-changed_by sets (some d) = changed sets d.what
+changed_by sets None = sets
+changed_by sets (Some d) = changed sets d.what
 
 -- do makes the change of the duty with this serial and removes it
 abbrev pub did : View → ℕ → ℕ → View

@@ -1,7 +1,7 @@
 -- When something to be done is permitted, and what it changes: document 01, section Permitted. That
 -- they say document 01's sentences (specs/Sentences.antt) is proved in proofs/Sentences.antt.
 use Rattle.std.specs.Prelude.{Bool, true, false, ◌&&◌, List, [], ◌∷◌, ◌++◌, map, ℕ, zero, suc, eqb, get_or, set}
-use Rattle.std.proofs.Math.Option.{Option, none, some}
+use Rattle.std.specs.Prelude.{Option, None, Some}
 use Rattle.orders.specs.Lists.{keep, find}
 use Rattle.roles.specs.Roles.{in_set, with_role, without_role}
 use Rattle.board.specs.declared.Asked.{Asked}
@@ -45,12 +45,12 @@ abbrev pub governs : ℕ → ℕ → Rule → Bool
 governs kind role r = eqb r.kind kind && eqb r.role role
 
 abbrev pub by_permission : Option Permission → Asked
-by_permission none = Unruled
-by_permission (some p) = Role p.role
+by_permission None = Unruled
+by_permission (Some p) = Role p.role
 
 abbrev pub by_rule : ℕ → Option Rule → Asked
-by_rule target none = Unruled
-by_rule target (some r) = Meets target r
+by_rule target None = Unruled
+by_rule target (Some r) = Meets target r
 
 -- what the permissions and rules ask for this to be done: kind 0 is assign, kind 1 is revoke
 abbrev pub asked_for : List Permission → List Rule → What → Asked
@@ -65,10 +65,10 @@ each held user roles = map (λ role. ((user, role), held)) roles
 -- The needs: a holding, and whether it is to be held. The doer holds the permission's role; or the doer holds
 -- the rule's actor role, and the target holds every wanted role and no barred role.
 abbrev pub needs : ℕ → Asked → Option (List (Holding × Bool))
-needs doer Unruled = none
-needs doer (Role role) = some (((doer, role), true) ∷ [])
+needs doer Unruled = None
+needs doer (Role role) = Some (((doer, role), true) ∷ [])
 needs doer (Meets target rule) =
-    some
+    Some
     (((doer, rule.actor), true)
     ∷ (each true target (roles_in rule.wanted) ++ each false target (roles_in rule.barred)))
 
@@ -76,9 +76,9 @@ needs doer (Meets target rule) =
 
 -- the holding that is set, and to what; a use changes no holding
 abbrev pub effect_of : What → Option (Holding × Bool)
-effect_of (Grant target role) = some ((target, role), true)
-effect_of (Revoke target role) = some ((target, role), false)
-effect_of (Use action object) = none
+effect_of (Grant target role) = Some ((target, role), true)
+effect_of (Revoke target role) = Some ((target, role), false)
+effect_of (Use action object) = None
 
 -- the sets of roles once this was done; a target past the end of the list changes nothing
 abbrev pub changed : List ℕ → What → List ℕ

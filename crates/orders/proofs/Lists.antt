@@ -4,7 +4,7 @@
 use mathlib.Core.Path.{◌≡◌, refl, sym, ◌∙◌, ap}
 use mathlib.Core.Bool.{Bool, true, false, not, ◌&&◌, cond}
 use mathlib.Core.Logic.{◌⊎◌, inl, inr, ⊎_elim}
-use mathlib.Core.Option.{none, some}
+use Rattle.std.specs.Prelude.{None, Some}
 use mathlib.Core.List.Memᴰ
 use mathlib.Core.List.{List, [], ◌∷◌, ◌++◌}
 use Rattle.orders.specs.Lists.{Mem, here, there, any, all, keep, find, Pairwise}
@@ -47,8 +47,8 @@ module _ {A : Type 0} where
       (p q : A → Bool) (l : List A) → not (any (λ x. p x && q x) l) ≡ true
       → (x : A) → Mem x l → p x ≡ true → q x ≡ false
   none_both p q l e x m h =
-      let none : any (λ y. p y && q y) l ≡ false = not_true (any (λ y. p y && q y) l) e in
-      is_false (q x) (λ k. clash (any_mem (λ y. p y && q y) m (and_both (p x) (q x) h k)) none)
+      let None : any (λ y. p y && q y) l ≡ false = not_true (any (λ y. p y && q y) l) e in
+      is_false (q x) (λ k. clash (any_mem (λ y. p y && q y) m (and_both (p x) (q x) h k)) None)
 
   pub both_none :
       (p q : A → Bool) (l : List A) → ((x : A) → Mem x l → p x ≡ true → q x ≡ false)
@@ -103,7 +103,7 @@ module _ {A : Type 0} where
 
   -- no member passes
   pub record FindsNone (p : A → Bool) (l : List A) : Type 0 where
-    pub finds : find p l ≡ none
+    pub finds : find p l ≡ None
     pub missed : any p l ≡ false
 
   -- x is the first to pass
@@ -111,7 +111,7 @@ module _ {A : Type 0} where
     pub earlier : List A
     pub x : A
     pub later : List A
-    pub finds : find p l ≡ some x
+    pub finds : find p l ≡ Some x
     pub is : l ≡ earlier ++ (x ∷ later)
     pub missed : any p earlier ≡ false
     pub passes : p x ≡ true

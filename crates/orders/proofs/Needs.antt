@@ -4,7 +4,7 @@
 use mathlib.Core.Path.{◌≡◌, refl, sym, ◌∙◌, ap}
 use mathlib.Core.Logic.{◌⊎◌, inl, inr, ⊎_elim}
 use mathlib.Core.Bool.{Bool, true, false, not, beq}
-use mathlib.Core.Option.{Option, none, some}
+use Rattle.std.specs.Prelude.{Option, None, Some}
 use mathlib.Core.List.{List, [], ◌∷◌, ◌++◌}
 use Rattle.orders.specs.Lists.{Mem, here, there}
 use Rattle.orders.specs.Orders.{run}
@@ -16,14 +16,14 @@ use Rattle.orders.proofs.Lists.{all_mem, all_false, at_cons}
 
 module _ {H : Type 0} where
   pub met_ruled : (s : H → Bool) (o : Option (List (H × Bool))) → met s o ≡ true → ruled o ≡ true
-  met_ruled s none e = e
-  met_ruled s (some needs) e = refl
+  met_ruled s None e = e
+  met_ruled s (Some needs) e = refl
 
   pub met_need :
       (s : H → Bool) (o : Option (List (H × Bool))) (h : H) (p : Bool) → met s o ≡ true
       → Mem (h, p) (needed o) → s h ≡ p
-  met_need s none h p e m = elim m [ ]
-  met_need s (some needs) h p e m = beq_true (s h) p (all_mem (λ n. beq (s n.0) n.1) e m)
+  met_need s None h p e m = elim m [ ]
+  met_need s (Some needs) h p e m = beq_true (s h) p (all_mem (λ n. beq (s n.0) n.1) e m)
 
   -- a need that is not met
   pub record Unmet (s : H → Bool) (o : Option (List (H × Bool))) : Type 0 where
@@ -34,8 +34,8 @@ module _ {H : Type 0} where
 
   pub why_not :
       (s : H → Bool) (o : Option (List (H × Bool))) → met s o ≡ false → (ruled o ≡ false) ⊎ Unmet s o
-  why_not s none e = inl refl
-  why_not s (some needs) e =
+  why_not s None e = inl refl
+  why_not s (Some needs) e =
       let ((h, p), m, f) = all_false (λ n. beq (s n.0) n.1) needs e in
       inr (record { holding = h; value = p; need = m; wrong = beq_false (s h) p f })
 
@@ -47,21 +47,21 @@ module _ (D : Duties) where
   pub sets_it :
       (s : Holdings D) (o : Option (Holding × Bool)) (h : Holding) (p : Bool) → sets_to D o h p ≡ true
       → change D s o h ≡ p
-  sets_it s none h p e = clash e refl
-  sets_it s (some (k, q)) h p e =
+  sets_it s None h p e = clash e refl
+  sets_it s (Some (k, q)) h p e =
       let r = and_true (same k h) (beq q p) e in
       rw r.0 (beq_true q p r.1)
 
   pub leaves_it :
       (s : Holdings D) (o : Option (Holding × Bool)) (h : Holding) (p : Bool) → sets_to D o h p ≡ false
       → sets_to D o h (not p) ≡ false → change D s o h ≡ s h
-  leaves_it s none h p e f = refl
-  leaves_it s (some (k, q)) h p e f =
+  leaves_it s None h p e f = refl
+  leaves_it s (Some (k, q)) h p e f =
       by_test (same k h) (λ t. neither q p (rw t at e) (rw t at f)) (λ t. rw t)
     where
       neither :
           (q p : Bool) → beq q p ≡ false → beq q (not p) ≡ false
-          → change D s (some (k, q)) h ≡ s h
+          → change D s (Some (k, q)) h ≡ s h
       neither q p e f = clash_not p (beq_same q p f) (beq_false q p e)
         where
           beq_same : (q p : Bool) → beq q (not p) ≡ false → q ≡ p

@@ -6,7 +6,8 @@
 use mathlib.Core.Path.{◌≡◌, refl, sym, ap, ◌∙◌, subst}
 use mathlib.Core.Logic.{◌↔◌, ◌⊎◌, inl, inr, ⊎_elim}
 use mathlib.Core.Bool.{Bool, true, false, not, cond}
-use mathlib.Core.Option.{Option, none, some, some-ne-none, some-injective}
+use Rattle.std.specs.Prelude.{Option, None, Some}
+use Rattle.std.proofs.lemmas.Option.{none-some, same_Some}
 use mathlib.Core.List.{List, [], ◌∷◌, ◌++◌, map}
 use Prim.Native.Nat.{ℕ, zero, suc, ◌≤◌, ◌<◌}
 use native.Mathlib.Nat.{not-suc-le-zero}
@@ -51,30 +52,30 @@ record FoundAt {A B : Type 0} (f : A → Option B) (l : List A) (y : B) : Type 0
   x : A
   later : List A
   is : l ≡ earlier ++ (x ∷ later)
-  missed : (z : A) → Mem z earlier → f z ≡ none
-  hit : f x ≡ some y
+  missed : (z : A) → Mem z earlier → f z ≡ None
+  hit : f x ≡ Some y
 
 module _ {B : Type 0} where
-  neither : (o p : Option B) → or_else o p ≡ none → (o ≡ none) × (p ≡ none)
-  neither none p e = (refl, e)
-  neither (some y) p e = absurd (some-ne-none y e)
+  neither : (o p : Option B) → or_else o p ≡ None → (o ≡ None) × (p ≡ None)
+  neither None p e = (refl, e)
+  neither (Some y) p e = absurd (none-some y (sym e))
 
-  either : {y : B} (o p : Option B) → or_else o p ≡ some y → (o ≡ some y) ⊎ ((o ≡ none) × (p ≡ some y))
-  either none p e = inr (refl, e)
-  either (some x) p e = inl e
+  either : {y : B} (o p : Option B) → or_else o p ≡ Some y → (o ≡ Some y) ⊎ ((o ≡ None) × (p ≡ Some y))
+  either None p e = inr (refl, e)
+  either (Some x) p e = inl e
 
 module _ {A B : Type 0} (f : A → Option B) where
-  none_found : {x : A} (l : List A) → first_found f l ≡ none → Mem x l → f x ≡ none
+  none_found : {x : A} (l : List A) → first_found f l ≡ None → Mem x l → f x ≡ None
   none_found [] e x3 = elim x3 [ ]
   none_found (z ∷ l) e (here p) = ap f p ∙ (neither (f z) (first_found f l) e).0
   none_found (z ∷ l) e (there m) = none_found l (neither (f z) (first_found f l) e).1 m
 
-  found_at : (l : List A) (y : B) → first_found f l ≡ some y → FoundAt f l y
-  found_at [] y e = absurd (some-ne-none y (sym e))
+  found_at : (l : List A) (y : B) → first_found f l ≡ Some y → FoundAt f l y
+  found_at [] y e = absurd (none-some y e)
   found_at (z ∷ l) y e =
       ⊎_elim now (λ (q, k). further q (found_at l y k)) (either (f z) (first_found f l) e)
     where
-      now : f z ≡ some y → FoundAt f (z ∷ l) y
+      now : f z ≡ Some y → FoundAt f (z ∷ l) y
       now q =
           record {
             earlier = [];
@@ -85,7 +86,7 @@ module _ {A B : Type 0} (f : A → Option B) where
             hit = q;
           }
 
-      further : f z ≡ none → FoundAt f l y → FoundAt f (z ∷ l) y
+      further : f z ≡ None → FoundAt f l y → FoundAt f (z ∷ l) y
       further q r =
           record {
             earlier = z ∷ r.earlier;
@@ -97,15 +98,15 @@ module _ {A B : Type 0} (f : A → Option B) where
           }
 
 module _ {A : Type 0} (d : A) where
-  front_none : (o : Option (List A)) → in_front d o ≡ none → o ≡ none
-  front_none none e = refl
-  front_none (some l) e = absurd (some-ne-none (d ∷ l) e)
+  front_none : (o : Option (List A)) → in_front d o ≡ None → o ≡ None
+  front_none None e = refl
+  front_none (Some l) e = absurd (none-some (d ∷ l) (sym e))
 
   front_some :
-      (o : Option (List A)) (list : List A) → in_front d o ≡ some list
-      → (l : List A) × (o ≡ some l) × (list ≡ d ∷ l)
-  front_some none list e = absurd (some-ne-none list (sym e))
-  front_some (some l) list e = (l, refl, sym (some-injective (d ∷ l) list e))
+      (o : Option (List A)) (list : List A) → in_front d o ≡ Some list
+      → (l : List A) × (o ≡ Some l) × (list ≡ d ∷ l)
+  front_some None list e = absurd (none-some list e)
+  front_some (Some l) list e = (l, refl, sym (same_Some (d ∷ l) list e))
 
 -- ---- one member fewer
 
@@ -154,30 +155,30 @@ module _ (W : World) where
     rest = first_failing W n (after s d) (without W d pool)
 
     abbrev found_with : Option (List Duty)
-    found_with = cond (permitted s d) (in_front d rest) (some (d ∷ []))
+    found_with = cond (permitted s d) (in_front d rest) (Some (d ∷ []))
 
     -- nothing is found: d is permitted, and nothing is found in the rest
-    goes_well : found_with ≡ none → (permitted s d ≡ true) × (rest ≡ none)
+    goes_well : found_with ≡ None → (permitted s d ≡ true) × (rest ≡ None)
     goes_well e =
         by_test (permitted s d)
         (λ t. (t, front_none d rest (rw t at e)))
-        (λ f. absurd (some-ne-none (d ∷ []) (rw f at e)))
+        (λ f. absurd (none-some (d ∷ []) (sym (rw f at e))))
 
     -- an order is found: d alone, or d in front of what is found in the rest
     goes_wrong :
-        (list : List Duty) → found_with ≡ some list
+        (list : List Duty) → found_with ≡ Some list
         → ((permitted s d ≡ false) × (list ≡ d ∷ []))
-        ⊎ ((l : List Duty) × (permitted s d ≡ true) × (rest ≡ some l) × (list ≡ d ∷ l))
+        ⊎ ((l : List Duty) × (permitted s d ≡ true) × (rest ≡ Some l) × (list ≡ d ∷ l))
     goes_wrong list e =
         by_test (permitted s d)
         (λ t. let (l, found, is) = front_some d rest list (rw t at e) in inr (l, t, found, is))
-        (λ f. inl (f, sym (some-injective (d ∷ []) list (rw f at e))))
+        (λ f. inl (f, sym (same_Some (d ∷ []) list (rw f at e))))
 
   -- ---- none exactly if green
 
   pub none→green :
       (n : ℕ) (s : State) (pool : List Duty) → Pool W pool → length pool ≤ n
-      → first_failing W n s pool ≡ none → Green W s pool
+      → first_failing W n s pool ≡ None → Green W s pool
   none→green zero s [] P h e =
       λ order o earlier d later q. elim (o.only d (rw q (mid earlier later))) [ ]
   none→green zero s (x ∷ pool) P h e = absurd (not-suc-le-zero h)
@@ -192,8 +193,8 @@ module _ (W : World) where
 
   pub some→failing :
       (n : ℕ) (s : State) (pool : List Duty) → Pool W pool → (list : List Duty)
-      → first_failing W n s pool ≡ some list → Failing W s pool list
-  some→failing zero s pool P list e = absurd (some-ne-none list (sym e))
+      → first_failing W n s pool ≡ Some list → Failing W s pool list
+  some→failing zero s pool P list e = absurd (none-some list e)
   some→failing (suc n) s pool P list e =
       let at = found_at (found_with n s pool) (nexts pool) list e in
       let d = at.x in
@@ -209,18 +210,18 @@ module _ (W : World) where
       (goes_wrong n s pool d list at.hit)
 
   pub green→none :
-      (n : ℕ) (s : State) (pool : List Duty) → Pool W pool → Green W s pool → first_failing W n s pool ≡ none
+      (n : ℕ) (s : State) (pool : List Duty) → Pool W pool → Green W s pool → first_failing W n s pool ≡ None
   green→none n s pool P g = go (first_failing W n s pool) refl
     where
-      go : (o : Option (List Duty)) → first_failing W n s pool ≡ o → o ≡ none
-      go none e = refl
-      go (some list) e =
+      go : (o : Option (List Duty)) → first_failing W n s pool ≡ o → o ≡ None
+      go None e = refl
+      go (Some list) e =
           absurd (failing_not_green W s pool list (some→failing n s pool P list e) g)
 
-  pub none↔green :
+  pub None↔green :
       (n : ℕ) (s : State) (pool : List Duty) → Pool W pool → length pool ≤ n
-      → (first_failing W n s pool ≡ none) ↔ Green W s pool
-  none↔green n s pool P h = (none→green n s pool P h, green→none n s pool P)
+      → (first_failing W n s pool ≡ None) ↔ Green W s pool
+  None↔green n s pool P h = (none→green n s pool P h, green→none n s pool P)
 
   -- ---- the least by serials
 
@@ -278,9 +279,9 @@ module _ (W : World) where
   -- no failing order comes first of it and the one that is found
   pub first_least :
       (n : ℕ) (s : State) (pool : List Duty) → Pool W pool → Rising W pool → length pool ≤ n
-      → (list : List Duty) → first_failing W n s pool ≡ some list
+      → (list : List Duty) → first_failing W n s pool ≡ Some list
       → (other : List Duty) → Failing W s pool other → ComesFirst (map serial other) (map serial list) → ⊥
-  first_least zero s pool P rise h list e other f c = absurd (some-ne-none list (sym e))
+  first_least zero s pool P rise h list e other f c = absurd (none-some list e)
   first_least (suc n) s pool P rise h list e other f c =
       let at = found_at (found_with n s pool) (nexts pool) list e in
       let d = at.x in
@@ -306,7 +307,7 @@ module _ (W : World) where
     where
       -- the first of the other is not lower than d: else it was tried before and leaves a green board
       not_lower : (d : Duty) (earlier later : List Duty) → nexts pool ≡ earlier ++ (d ∷ later)
-          → ((z : Duty) → Mem z earlier → found_with n s pool z ≡ none) → (b : Begins s pool other)
+          → ((z : Duty) → Mem z earlier → found_with n s pool z ≡ None) → (b : Begins s pool other)
           → serial b.x < serial d → ⊥
       not_lower d earlier later is missed b lower =
           at_mid earlier

@@ -2,7 +2,7 @@
 -- the lesser of n and the list's length. It keeps this: what is left at place i finds what the whole finds.
 use mathlib.Core.Path.{◌≡◌, ◌∙◌}
 use mathlib.Core.Bool.{Bool, true, false}
-use mathlib.Core.Option.{none, some}
+use Rattle.std.specs.Prelude.{None, Some}
 use mathlib.Core.List.{List, ◌∷◌}
 use Prim.Native.Nat.{ℕ, ◌+◌, ◌≤◌, ◌<◌, min}
 use native.Mathlib.Omega.{arith}
@@ -24,11 +24,11 @@ next l n i d h k = rw (add-one i) (drop-cons (take n l) i d (rw length-take (ome
 module _
     {A : Type 0} {p : A → Bool} {l : List A} {n i k : ℕ} (left : Left p l n i) (bound : k ≡ min n (length l))
   where
-    pub hit : (d : A) → i < k → p (get_or l i d) ≡ true → find p (take n l) ≡ some (get_or l i d)
+    pub hit : (d : A) → i < k → p (get_or l i d) ≡ true → find p (take n l) ≡ Some (get_or l i d)
     hit d h e = left.same ∙ rw (next l n i d (omega arith) (omega arith), e)
 
     pub skip : (d : A) → i < k → p (get_or l i d) ≡ false → Left p l n (i + 1)
     skip d h e = record { same = left.same ∙ rw (next l n i d (omega arith) (omega arith), e) }
 
-    pub over : k ≤ i → find p (take n l) ≡ none
+    pub over : k ≤ i → find p (take n l) ≡ None
     over h = left.same ∙ rw (drop_of_length-le (take n l) {i = i} (rw length-take (omega arith)))

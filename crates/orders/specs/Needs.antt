@@ -1,7 +1,7 @@
 -- Duties that need holdings and set at most one: what a duty asks, when that is met, what it sets.
 use Rattle.std.specs.Prelude.{Bool, true, false, ◌&&◌, cond, List, [], ℕ}
 use Rattle.std.specs.Bool.{beq}
-use Rattle.std.proofs.Math.Option.{Option, none, some}
+use Rattle.std.specs.Prelude.{Option, None, Some}
 use Rattle.orders.specs.Lists.{all}
 use Rattle.orders.specs.Orders.{World}
 
@@ -20,18 +20,18 @@ pub record Duties : Type 1 where
 module _ {H : Type 0} where
   -- there is a permission or rule
   abbrev pub ruled : Option (List (H × Bool)) → Bool
-  ruled none = false
-  ruled (some needs) = true
+  ruled None = false
+  ruled (Some needs) = true
 
   -- the needs; none where there is no permission or rule
   abbrev pub needed : Option (List (H × Bool)) → List (H × Bool)
-  needed none = []
-  needed (some needs) = needs
+  needed None = []
+  needed (Some needs) = needs
 
   -- there is a permission or rule, and who holds what meets every need
   abbrev pub met : (H → Bool) → Option (List (H × Bool)) → Bool
-  met s none = false
-  met s (some needs) = all (λ n. beq (s n.0) n.1) needs
+  met s None = false
+  met s (Some needs) = all (λ n. beq (s n.0) n.1) needs
 
 module _ (D : Duties) where
   open D use {Duty, Holding, serial, wholly_before, same, asks, effect}
@@ -41,8 +41,8 @@ module _ (D : Duties) where
   Holdings = Holding → Bool
 
   abbrev pub change : Holdings → Option (Holding × Bool) → Holdings
-  change s none h = s h
-  change s (some e) h = cond (same e.0 h) e.1 (s h)
+  change s None h = s h
+  change s (Some e) h = cond (same e.0 h) e.1 (s h)
 
   -- the world of these duties
   abbrev pub world : World
@@ -58,8 +58,8 @@ module _ (D : Duties) where
 
   -- the effect sets this holding to this value
   abbrev pub sets_to : Option (Holding × Bool) → Holding → Bool → Bool
-  sets_to none h p = false
-  sets_to (some e) h p = same e.0 h && beq e.1 p
+  sets_to None h p = false
+  sets_to (Some e) h p = same e.0 h && beq e.1 p
 
   abbrev pub sets : Duty → Holding → Bool → Bool
   sets d = sets_to (effect d)

@@ -3,25 +3,25 @@
 -- a green board, and that what it finds is the least failing order by serials, is proved in
 -- proofs/Plain.antt.
 use Rattle.std.specs.Prelude.{◌≡◌, ◌⊎◌, Bool, not, cond, List, [], ◌∷◌, ℕ, zero, suc, ◌<◌}
-use Rattle.std.proofs.Math.Option.{Option, none, some}
+use Rattle.std.specs.Prelude.{Option, None, Some}
 use Rattle.orders.specs.Lists.{any, keep, Pairwise}
 use Rattle.orders.specs.Orders.{World}
 use Rattle.orders.specs.Walks.{without}
 
 -- what is found, else what is found later
 abbrev pub or_else : {B : Type 0} → Option B → Option B → Option B
-or_else none later = later
-or_else (some x) later = some x
+or_else None later = later
+or_else (Some x) later = Some x
 
 -- what is found first for one of these, tried in turn
 abbrev pub first_found : {A B : Type 0} → (A → Option B) → List A → Option B
-first_found f [] = none
+first_found f [] = None
 first_found f (x ∷ l) = or_else (f x) (first_found f l)
 
 -- d in front of the list, if there is one
 abbrev pub in_front : {A : Type 0} → A → Option (List A) → Option (List A)
-in_front d none = none
-in_front d (some l) = some (d ∷ l)
+in_front d None = None
+in_front d (Some l) = Some (d ∷ l)
 
 module _ (W : World) where
   open W use {Duty, State, serial, wholly_before, permitted, after}
@@ -34,10 +34,10 @@ module _ (W : World) where
   -- the pool's order, which is that of serials. One that is not permitted ends the search; else it is done,
   -- and the rest is walked in the same way.
   abbrev pub first_failing : ℕ → State → List Duty → Option (List Duty)
-  first_failing zero s pool = none
+  first_failing zero s pool = None
   first_failing (suc n) s pool =
       first_found
-      (λ d. cond (permitted s d) (in_front d (first_failing n (after s d) (without W d pool))) (some (d ∷ [])))
+      (λ d. cond (permitted s d) (in_front d (first_failing n (after s d) (without W d pool))) (Some (d ∷ [])))
       (keep (may_come_next pool) pool)
 
   -- serials rise in the pool

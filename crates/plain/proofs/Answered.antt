@@ -3,7 +3,7 @@
 use mathlib.Core.Path.{◌≡◌, refl, sym, ap, ◌∙◌}
 use mathlib.Core.Logic.{◌⊎◌, inl, inr}
 use mathlib.Core.Bool.{true, false}
-use mathlib.Core.Option.{Option, none, some}
+use Rattle.std.specs.Prelude.{Option, None, Some}
 use mathlib.Core.List.{List}
 use Prim.Native.Nat.{ℕ, ◌+◌, ◌<◌, ◌≤◌}
 use native.Mathlib.Omega.{arith}
@@ -82,13 +82,13 @@ module _ (b : Board) (before : List ℕ) where
 
         -- what is found is a failing order
         is_failing :
-            (order : List Duty) → first_failing_of v ≡ some order
+            (order : List Duty) → first_failing_of v ≡ Some order
             → Failing (world_of v) (held_in v.holdings) v.duties order
         is_failing order e =
             some→failing (world_of v) (length v.duties) (held_in v.holdings) v.duties pool_right order
             e
 
-        fails : (order : List Duty) → first_failing_of v ≡ some order → FailingOrder v (serials order)
+        fails : (order : List Duty) → first_failing_of v ≡ Some order → FailingOrder v (serials order)
         fails order e = record { list = order; named = refl; failing = is_failing order e }
 
         module _ (after : List ℕ) (r : ℕ) (is : (r, after) ≡ told 0 before (walked n b)) where
@@ -100,7 +100,7 @@ module _ (b : Board) (before : List ℕ) where
             where
               go : (o : Option (List Duty)) → first_failing_of v ≡ o → (r, after) ≡ told 0 before o
                   → Walks b before after (plain_answer answer.done)
-              go none e same =
+              go None e same =
                   let green : Green v =
                   none→green (world_of v) (length v.duties) (held_in v.holdings) v.duties pool_right
                   (omega arith) e in
@@ -108,7 +108,7 @@ module _ (b : Board) (before : List ℕ) where
                   rw kept
                   (refused answer.done (λ e. omega arith)
                   (passed answer.done (inr (λ red. red_not_green v red green, refl))))
-              go (some order) e same =
+              go (Some order) e same =
                   let long : r ≡ 0 + length order = ap (λ (p : ℕ × List ℕ). p.0) same in
                   let named = length-map order (λ (d : Duty). d.serial.0) in
                   absurd (not_empty v (serials order) (fails order e) (omega arith))
@@ -118,8 +118,8 @@ module _ (b : Board) (before : List ℕ) where
             where
               go : (o : Option (List Duty)) → first_failing_of v ≡ o → (r, after) ≡ told 0 before o
                   → Walks b before after (red_answer r)
-              go none e same = absurd (not-zero (ap (λ (p : ℕ × List ℕ). p.0) same))
-              go (some order) e same =
+              go None e same = absurd (not-zero (ap (λ (p : ℕ × List ℕ). p.0) same))
+              go (Some order) e same =
                   let long : r ≡ 0 + length order = ap (λ (p : ℕ × List ℕ). p.0) same in
                   let no_longer =
                   failing_length (world_of v) v.duties pool_right _ order (is_failing order e) in

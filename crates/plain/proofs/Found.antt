@@ -3,7 +3,7 @@
 -- its role are in range; and beyond the users the table says nothing.
 use mathlib.Core.Path.{◌≡◌, refl, ap, ◌∙◌}
 use mathlib.Core.Bool.{Bool, true, cond}
-use mathlib.Core.Option.{Option, some}
+use Rattle.std.specs.Prelude.{Option, Some}
 use mathlib.Core.List.{List, [], ◌∷◌}
 use Prim.Native.Nat.{ℕ, zero, suc, ◌≤◌}
 use lib.ListN.{length}
@@ -60,7 +60,7 @@ module _ (permissions : List Permission) (rules : List Rule) (users roles : ℕ)
         (changed_holdings permissions rules sets users roles table limit d.what (fits d open_d)) in
         ap
         (λ (o : Option (List Duty)).
-        cond (sets_world_lem.permitted sets d) (in_front d o) (some (d ∷ [])))
+        cond (sets_world_lem.permitted sets d) (in_front d o) (Some (d ∷ [])))
         rest)
 
 module _ (b : Board) (size : Sized b) (is_good : good b ≡ true) where

@@ -4,7 +4,8 @@
 use mathlib.Core.Path.{◌≡◌, refl, sym, ap, ◌∙◌}
 use mathlib.Core.Logic.{inl, inr}
 use mathlib.Core.Bool.{true}
-use mathlib.Core.Option.{some, some-injective}
+use Rattle.std.specs.Prelude.{Some}
+use Rattle.std.proofs.lemmas.Option.{same_Some}
 use mathlib.Core.List.{List, ◌++◌}
 use Prim.Native.Nat.{ℕ}
 use native.Mathlib.Omega.{arith}
@@ -37,7 +38,7 @@ module _ (b : Board) where
   red_good room n (inl (g, e)) q = absurd (omega arith)
   red_good room n (inr (f, a)) q = is_true (good b) f
 
-  module _ (whole : good b ≡ true) (order : List Duty) (found : first_failing_of v ≡ some order) where
+  module _ (whole : good b ≡ true) (order : List Duty) (found : first_failing_of v ≡ Some order) where
     -- what is found is a true failing order
     pub first_fails : FailingOrder v (serials order)
     first_fails =
@@ -82,4 +83,4 @@ same_walk b before after after' r r' p q =
     same_told (view b) before after after' r r'
     (same_answer (walk_checks b (length before)) r.number r'.number p.number q.number)
     (p.serial ∙ sym q.serial) (walk_told b before after r p) (walk_told b before after' r' q)
-    (λ e e'. ap serials (some-injective _ _ (sym (p.red e).found ∙ (q.red e').found)))
+    (λ e e'. ap serials (same_Some _ _ (sym (p.red e).found ∙ (q.red e').found)))

@@ -3,7 +3,7 @@
 -- behind that order is not 0 and the list has its serials; else the list is as it was.
 use mathlib.Core.Path.{◌≡◌, refl, sym, ap, ◌∙◌}
 use mathlib.Core.Bool.{Bool, true, false, not, cond}
-use mathlib.Core.Option.{Option, none, some}
+use Rattle.std.specs.Prelude.{Option, None, Some}
 use mathlib.Core.List.{List, [], ◌∷◌}
 use Prim.Native.Nat.{ℕ, zero, suc, ◌+◌, ◌-◌, ◌≤◌, ◌<◌}
 use native.Mathlib.Numerals.{add-one}
@@ -42,7 +42,7 @@ module _ (b : Board) (left : ℕ) where
 
   -- what is found where d comes next
   abbrev pub found_with : Duty → Option (List Duty)
-  found_with d = cond (permitted_in d) (in_front d (walked (left - 1) (done d))) (some (d ∷ []))
+  found_with d = cond (permitted_in d) (in_front d (walked (left - 1) (done d))) (Some (d ∷ []))
 
 -- The duties below place i are tried; nothing was found, and the list is as it was.
 pub record Tried (b : Board) (left : ℕ) (before now : List ℕ) (i : ℕ) : Type 0 where
@@ -57,10 +57,10 @@ pub record Ended
     (found : Option (List Duty)) (d : Duty) (at : ℕ) (before : List ℕ) (end : ℕ) (now : List ℕ) : Type 0
   where
     pub long : length now ≡ length before
-    pub nothing : end ≡ 0 → (found ≡ none) × (now ≡ before)
+    pub nothing : end ≡ 0 → (found ≡ None) × (now ≡ before)
     pub order :
         (end ≡ 0 → ⊥)
-        → (o : List Duty) × (found ≡ some o) × ((end, set now at d.serial.0) ≡ told at before found)
+        → (o : List Duty) × (found ≡ Some o) × ((end, set now at d.serial.0) ≡ told at before found)
 
 -- ---- the board with a duty done
 
@@ -107,7 +107,7 @@ module _ {b : Board} {left : ℕ} {before : List ℕ} where
           (keep (comes_next b left) (view b).duties)
           (λ d m.
           ap
-          (λ (o : Option (List Duty)). cond (permitted_in b left d) (in_front d o) (some (d ∷ [])))
+          (λ (o : Option (List Duty)). cond (permitted_in b left d) (in_front d o) (Some (d ∷ [])))
           (sym (one k d)))
 
   module _
@@ -140,7 +140,7 @@ module _ {b : Board} {left : ℕ} {before : List ℕ} where
               → (end, last) ≡ told at before (walked left b)
           found n last put =
               let (order, e, is_told) = ended.order n in
-              let whole : walked left b ≡ some order = rw (rest, t, e) at tried.same in
+              let whole : walked left b ≡ Some order = rw (rest, t, e) at tried.same in
               told_same at end put tried.list (found_with b left d) (walked left b) (e ∙ sym whole) is_told
 
   -- at the end nothing is found
@@ -148,7 +148,7 @@ module _ {b : Board} {left : ℕ} {before : List ℕ} where
       {now : List ℕ} {i : ℕ} → Tried b left before now i → length (view b).duties ≤ i
       → (at : ℕ) → (0, now) ≡ told at before (walked left b)
   over {now} {i} tried h at =
-      let nothing : walked left b ≡ none =
+      let nothing : walked left b ≡ None =
       rw (drop_of_length-le (view b).duties {i = i} h) at tried.same in
       rw nothing (ap (λ (l : List ℕ). (0, l)) tried.list)
 
@@ -176,14 +176,14 @@ module _ (b : Board) (left : ℕ) {at : ℕ} {before : List ℕ} (d : Duty) wher
     where
       go : (found : Option (List Duty)) → (end, now) ≡ told (at + 1) before found
           → Ended (in_front d found) d at before end now
-      go none e =
+      go None e =
           let now_is : now ≡ before = ap (λ (p : ℕ × List ℕ). p.1) e in
           record {
             long = ap length now_is;
             nothing = λ z. (refl, now_is);
             order = λ n. absurd (n (ap (λ (p : ℕ × List ℕ). p.0) e));
           }
-      go (some o) e =
+      go (Some o) e =
           let end_is : end ≡ at + 1 + length o = ap (λ (p : ℕ × List ℕ). p.0) e in
           let now_is : now ≡ written (at + 1) o before = ap (λ (p : ℕ × List ℕ). p.1) e in
           let behind : end ≡ at + suc (length o) = omega arith in

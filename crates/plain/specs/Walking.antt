@@ -1,6 +1,6 @@
 -- What the code's walk gives, over sets of roles as they stand in a board value. No promise of a call rests
 -- on these words: that the walk finds what `first_failing_of` says is proved in proofs/Found.antt.
-use Rattle.std.proofs.Math.Option.{Option, none, some}
+use Rattle.std.specs.Prelude.{Option, None, Some}
 use Rattle.std.specs.Prelude.{List, [], ◌∷◌, ℕ, ◌+◌, length, set}
 use Rattle.orders.specs.Needs.{met}
 use Rattle.orders.specs.Orders.{World}
@@ -38,5 +38,5 @@ written at (d ∷ order) list = set (written (at + 1) order list) at d.serial.0
 -- where an order is found, the place behind it, and the list with its serials from a place on; else 0, and
 -- the list as it was
 abbrev pub told : ℕ → List ℕ → Option (List Duty) → ℕ × List ℕ
-told at list none = (0, list)
-told at list (some order) = (at + length order, written at order list)
+told at list None = (0, list)
+told at list (Some order) = (at + length order, written at order list)

@@ -1,7 +1,7 @@
 -- What the call walk promises, for every board value and every lent list: the first failing order of the
 -- plain walk, and with it the outcome whole.
 use Rattle.std.specs.Prelude.{◌≡◌, false, List, [], ◌∷◌, ◌++◌, map, ℕ, ◌<◌, length, drop}
-use Rattle.std.proofs.Math.Option.{Option, some}
+use Rattle.std.specs.Prelude.{Option, Some}
 use Rattle.orders.specs.Plain.{first_failing}
 use Rattle.board.specs.declared.Answer.{Answer}
 use Rattle.board.specs.declared.Board.{Board}
@@ -28,7 +28,7 @@ serials l = map (λ (d : Duty). d.serial.0) l
 -- its serials stand at the start of the list, the rest of which is untouched; n is their number
 pub record FirstTold (v : View) (before after : List ℕ) (n : ℕ) : Type 0 where
   pub order : List Duty
-  pub found : first_failing_of v ≡ some order
+  pub found : first_failing_of v ≡ Some order
   pub counted : n ≡ length order
   pub list : after ≡ serials order ++ drop (length order) before
 

@@ -3,7 +3,7 @@
 use mathlib.Core.Path.{◌≡◌, sym, ap, ◌∙◌, subst}
 use mathlib.Core.Logic.{⊎_elim}
 use mathlib.Core.Bool.{Bool, true, false, true≢false}
-use mathlib.Core.Option.{some}
+use Rattle.std.specs.Prelude.{Some}
 use Prim.Native.Nat.{ℕ}
 use borrow.Author.Tests.{eqb-true, eqb-false}
 use Rattle.orders.specs.Lists.{Mem, find}
@@ -29,7 +29,7 @@ duty_or other Missing = other
 pub record FoundOpen (v : View) (serial : ℕ) (d : Duty) : Type 0 where
   pub open_duty : Mem d v.duties
   pub has_serial : d.serial.0 ≡ serial
-  pub finds : find (named serial) v.duties ≡ some d
+  pub finds : find (named serial) v.duties ≡ Some d
 
 module _ (v : View) (serial : ℕ) where
   pub found_missing : found (find (named serial) v.duties) ≡ Missing → NotOpen v serial

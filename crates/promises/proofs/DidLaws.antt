@@ -2,7 +2,7 @@
 -- the holdings and the duties that the theory of orders says. Hence: green stays green.
 use mathlib.Core.Path.{◌≡◌, refl, sym, ap, subst, ◌∙◌}
 use mathlib.Core.Logic.{⊎_elim}
-use mathlib.Core.Option.{some}
+use Rattle.std.specs.Prelude.{Some}
 use Prim.Native.Nat.{ℕ}
 use native.Mathlib.Omega.{arith}
 use borrow.Author.Tests.{eqb-true, eq-eqb}
@@ -40,7 +40,7 @@ module _ (v : View) (fits : ViewFits v) where
       subst Holds (one_duty o.duty d o.open_duty m (o.has_serial ∙ sym e)) o.holds
 
   -- the duty with d's serial is d
-  pub finds : (d : Duty) → Mem d v.duties → find (named d.serial.0) v.duties ≡ some d
+  pub finds : (d : Duty) → Mem d v.duties → find (named d.serial.0) v.duties ≡ Some d
   finds d m =
       ⊎_elim
       (λ n. clash (any_mem (named d.serial.0) m (eq-eqb d.serial.0 d.serial.0 refl)) n.missed)
@@ -48,7 +48,7 @@ module _ (v : View) (fits : ViewFits v) where
       let x = f.x in
       let open_x : Mem x v.duties = rw f.is (mid f.earlier f.later) in
       let same : d.serial.0 ≡ x.serial.0 = eqb-true d.serial.0 x.serial.0 f.passes in
-      f.finds ∙ ap some (sym (one_duty d x m open_x same)))
+      f.finds ∙ ap Some (sym (one_duty d x m open_x same)))
       (find_case (named d.serial.0) v.duties)
 
   module _ (clock : ℕ) (d : Duty) (open_d : Mem d v.duties) where

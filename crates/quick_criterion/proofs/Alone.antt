@@ -5,7 +5,7 @@
 -- one form are empty, and any set meets them.
 use mathlib.Core.Path.{◌≡◌, refl, sym, ap, ap₂, ◌∙◌}
 use mathlib.Core.Bool.{Bool, true, false, not, ◌&&◌, ◌||◌, beq}
-use mathlib.Core.Option.{Option, none, some}
+use Rattle.std.specs.Prelude.{Option, None, Some}
 use mathlib.Core.List.{List, [], ◌∷◌, ◌++◌}
 use Prim.Native.Nat.{ℕ, ◌≤◌, ◌<◌}
 use native.Mathlib.Omega.{arith}
@@ -110,8 +110,8 @@ DoerRoleFits (Meets target rule) = rule.actor < max_roles
 
 -- what is found fits, where every member does
 found_fits :
-    {A : Type 0} (p fits : A → Bool) (l : List A) (P : Option A → Type 0) → all fits l ≡ true → P none
-    → ((x : A) → fits x ≡ true → P (some x)) → P (find p l)
+    {A : Type 0} (p fits : A → Bool) (l : List A) (P : Option A → Type 0) → all fits l ≡ true → P None
+    → ((x : A) → fits x ≡ true → P (Some x)) → P (find p l)
 found_fits p fits [] P e n s = n
 found_fits p fits (x ∷ l) P e n s =
     let r = and_true (fits x) (all fits l) e in
