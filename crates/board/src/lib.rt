@@ -51,7 +51,7 @@ pub struct Rule {
 
 // What something to be done asks of the holdings: no permission or rule is there for it; the doer is to hold
 // a role; or doer and target are to meet a rule.
-#[derive(Clone, Copy)]
+#[derive(Clone, Copy, PartialEq, Eq)]
 pub enum Asked {
     Unruled,
     Role(u16),
@@ -68,7 +68,7 @@ pub struct Counts {
     pub duties: u16,
 }
 
-#[derive(Clone, Copy)]
+#[derive(Clone, Copy, PartialEq, Eq)]
 pub struct Board {
     pub counts: Counts,
     pub clock: u32,
@@ -205,15 +205,15 @@ impl Board {
 
 // What a call answers: its number, the serial of a duty that was admitted (else 0), and the length of what
 // stands at the start of the lent list or buffer: a failing order, or a saved file (0 where there is none).
-#[derive(Clone, Copy)]
+#[derive(Clone, Copy, PartialEq, Eq)]
 pub struct Answer {
     pub number: u8,
     pub serial: Serial,
     pub length: usize,
 }
 
-// Why a call is refused. A red board comes with the length of a failing order, whose serials stand at the start
-// of the lent list.
+// Why a call is refused. A red board comes with the length of a failing order, whose serials stand at the
+// start of the lent list.
 #[derive(Clone, Copy, PartialEq, Eq)]
 pub enum Refusal {
     Short,
@@ -389,5 +389,5 @@ impl Answer {
 pub fn within(count: usize, room: usize) -> usize
     ensures { result ≡ min count room }
 {
-    if count < room { count } else { room }
+    count.min(room)
 }
