@@ -1,6 +1,7 @@
 -- When something to be done is permitted, and what it changes: document 01, section Permitted. That
 -- they say document 01's sentences (specs/Sentences.antt) is proved in proofs/Sentences.antt.
-use Rattle.std.specs.Prelude.{Bool, true, false, ◌&&◌, List, [], ◌∷◌, ◌++◌, map, ℕ, zero, suc, eqb, get_or, set}
+use Rattle.std.specs.Prelude.{Bool, true, false, ◌&&◌, List, [], ◌∷◌, ◌++◌, map, ℕ, zero, suc, eqb, get_or}
+use Rattle.std.specs.Prelude.{set}
 use Rattle.std.specs.Prelude.{Option, None, Some}
 use Rattle.orders.specs.Lists.{keep, find}
 use Rattle.roles.specs.Roles.{in_set, with_role, without_role}

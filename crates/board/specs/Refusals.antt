@@ -2,9 +2,11 @@
 use Rattle.std.specs.Prelude.{ℕ, Result, Ok, Err}
 use Rattle.board.specs.declared.Answer.{Answer}
 use Rattle.board.specs.declared.Refusal.{Refusal}
-use Rattle.board.specs.declared.Refusal.TheVariants.{Short, Version, Count, Layout, Field, NotAbove, Window, Red}
+use Rattle.board.specs.declared.Refusal.TheVariants.{Short, Version, Count, Layout, Field, NotAbove, Window}
+use Rattle.board.specs.declared.Refusal.TheVariants.{Red}
 use Rattle.board.specs.declared.Refusal.TheVariants.{List, Clock, Request, NotOpen, Outside, HeldBack}
-use Rattle.board.specs.declared.Refusal.TheVariants.{NotPermitted, Full, Spent, Long, Broken, Room, Over, Many}
+use Rattle.board.specs.declared.Refusal.TheVariants.{NotPermitted, Full, Spent, Long, Broken, Room, Over}
+use Rattle.board.specs.declared.Refusal.TheVariants.{Many}
 use Rattle.board.specs.Answers.{plain_answer}
 use Rattle.board.specs.Numbers as answer
 
