@@ -47,8 +47,8 @@ module _ {A : Type 0} where
       (p q : A → Bool) (l : List A) → not (any (λ x. p x && q x) l) ≡ true
       → (x : A) → Mem x l → p x ≡ true → q x ≡ false
   none_both p q l e x m h =
-      let None : any (λ y. p y && q y) l ≡ false = not_true (any (λ y. p y && q y) l) e in
-      is_false (q x) (λ k. clash (any_mem (λ y. p y && q y) m (and_both (p x) (q x) h k)) None)
+      let none : any (λ y. p y && q y) l ≡ false = not_true (any (λ y. p y && q y) l) e in
+      is_false (q x) (λ k. clash (any_mem (λ y. p y && q y) m (and_both (p x) (q x) h k)) none)
 
   pub both_none :
       (p q : A → Bool) (l : List A) → ((x : A) → Mem x l → p x ≡ true → q x ≡ false)

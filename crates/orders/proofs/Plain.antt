@@ -218,10 +218,10 @@ module _ (W : World) where
       go (Some list) e =
           absurd (failing_not_green W s pool list (some→failing n s pool P list e) g)
 
-  pub None↔green :
+  pub none↔green :
       (n : ℕ) (s : State) (pool : List Duty) → Pool W pool → length pool ≤ n
       → (first_failing W n s pool ≡ None) ↔ Green W s pool
-  None↔green n s pool P h = (none→green n s pool P h, green→none n s pool P)
+  none↔green n s pool P h = (none→green n s pool P h, green→none n s pool P)
 
   -- ---- the least by serials
 
