@@ -64,11 +64,10 @@ fn write_file(rt: &(impl Print + Eprint), b: Board) -> io::Result<()> {
         return refuse(rt, verdict.number);
     }
     let mut buffer = [0u8; layout::LONGEST];
-    let answer = save::save(b, &mut buffer);
-    if answer.number != Answer::DONE {
-        return refuse(rt, answer.number);
+    match save::save(b, &mut buffer) {
+        Ok(length) => write_out(rt, &buffer, length),
+        Err(refusal) => refuse(rt, refusal.number()),
     }
-    write_out(rt, &buffer, answer.length)
 }
 
 // Open the board, make the calls, and write the file.

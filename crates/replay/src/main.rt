@@ -6,7 +6,7 @@ mod lent;
 mod show;
 mod text;
 
-use board::Board;
+use board::{Answer, Board};
 use lent::{BUFFER, FIRST_BYTE, Lists, buffer_by, is_kept, is_rest_kept, mark, noted};
 use session::{LENT, Record, SIZE};
 use show::{put_answer, put_board, put_lists, put_opening, put_save};
@@ -70,7 +70,7 @@ fn saved(
     let mut buffer = [FIRST_BYTE; BUFFER];
     let n = buffer_by(r.extra);
     let board = live.board;
-    let answer = save::save(board, &mut buffer[0..n]);
+    let answer = save::save(board, &mut buffer[0..n]).map_or_else(Answer::from, Answer::written);
     let here = put_save(rt, out, live.here, answer, &buffer)?;
     let so_far = live.lists;
     let lists = noted(so_far, is_rest_kept(&buffer, answer), number);

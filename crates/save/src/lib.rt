@@ -7,11 +7,13 @@ mod header;
 mod parts;
 
 ghost use Rattle.std.specs.Prelude.{◌≡◌, true, ◌≤◌, length};
+ghost use Rattle.board.specs.Answers.{written_answer};
 ghost use Rattle.board.specs.Good.{good};
+ghost use Rattle.board.specs.Refusals.{answered};
 ghost use Rattle.put.specs.Put.{Put};
 ghost use Rattle.save.specs.Saves.{saved, Saves};
 
-use board::{Answer, Board};
+use board::{Board, Refusal};
 use header::put_header;
 use parts::{put_duties, put_holdings, put_permissions, put_rules};
 
@@ -38,15 +40,15 @@ fn put_file(b: Board, buffer: &mut [u8]) -> usize
     put_duties(buffer, after_rules, duties, counts.duties as usize)
 }
 
-// Save: 19, 20.
-pub fn save(b: Board, buffer: &mut [u8]) -> Answer
-    ensures { Saves b buffer.old buffer.new result }
+// Save, and answer the length of the file: 19, 20.
+pub fn save(b: Board, buffer: &mut [u8]) -> Result<usize, Refusal>
+    ensures { Saves b buffer.old buffer.new (answered written_answer result) }
 {
     if !values::is_good(b) {
-        return Answer::plain(Answer::BROKEN);
+        return Err(Refusal::Broken);
     }
     if buffer.len() < layout::total_of(b.counts) {
-        return Answer::plain(Answer::ROOM);
+        return Err(Refusal::Room);
     }
-    Answer::written(put_file(b, buffer))
+    Ok(put_file(b, buffer))
 }

@@ -9,19 +9,15 @@ use Rattle.save.proofs.save.Goals as goal
 
 pub returns-then-not-is_good : goal.returns-then-not-is_good
 returns-then-not-is_good c =
-    rw
-    c.plain.ensures
-    (broken c.args.b c.args.buffer.now (sym c.is_good.ensures ∙ c.if-not-is_good.true))
+    broken c.args.b c.args.buffer.now (sym c.is_good.ensures ∙ c.if-not-is_good.true)
 
 -- past the first test the board is good, and the file as long as the counts say
 pub returns-then-buffer-total_of : goal.returns-then-buffer-total_of
 returns-then-buffer-total_of c =
     let whole = sym c.is_good.ensures ∙ c.if-not-is_good.false in
     let long = saved_length c.args.b (sized c.args.b _ c.well_formed.0) whole in
-    rw
-    c.plain-then-buffer-total_of.ensures
-    (no_room c.args.b c.args.buffer.now whole
-    (omega (arith, long, c.total_of.ensures, c.if-buffer-total_of.true)))
+    no_room c.args.b c.args.buffer.now whole
+    (omega (arith, long, c.total_of.ensures, c.if-buffer-total_of.true))
 
 -- past the second there is room
 pub put_file-requires : goal.put_file-requires
@@ -34,7 +30,5 @@ pub returns : goal.returns
 returns c =
     let whole = sym c.is_good.ensures ∙ c.if-not-is_good.false in
     let long = saved_length c.args.b (sized c.args.b _ c.well_formed.0) whole in
-    rw
-    c.written.ensures
-    (written c.args.b c.args.buffer.now whole _ _
-    (omega (arith, long, c.total_of.ensures, c.if-buffer-total_of.false)) c.put_file.ensures)
+    written c.args.b c.args.buffer.now whole _ _
+    (omega (arith, long, c.total_of.ensures, c.if-buffer-total_of.false)) c.put_file.ensures
