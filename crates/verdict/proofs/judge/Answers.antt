@@ -1,7 +1,6 @@
 -- `verdict::judge` meets its contract: where no duty is open or `trouble_of` finds nothing the board is
 -- green, and what it finds makes the order that `write_order` walks a failing one.
 use mathlib.Core.Path.{refl}
-use mathlib.Core.Logic.{inl, inr}
 use native.Mathlib.Omega.{arith}
 use Rattle.board.proofs.Sized.{sized}
 use Rattle.verdict.proofs.Judging.{nothing_green, none_green, found_red}
@@ -10,15 +9,13 @@ use Rattle.verdict.proofs.judge.Goals as goal
 pub returns-then-n-eq0 : goal.returns-then-n-eq0
 returns-then-n-eq0 c whole room =
     let none = c.if-n-eq0.true in
-    inl (none_green c.args.b (sized c.args.b _ c.well_formed.0) whole (omega (arith, none)), refl, refl)
+    (none_green c.args.b (sized c.args.b _ c.well_formed.0) whole (omega (arith, none)), refl)
 
 pub returns-in_default : goal.returns-in_default
 returns-in_default c whole room =
     let nothing = rw c.in_default.is at c.trouble_of-trouble.ensures in
-    let asks = c.asks_of-asks in
-    inl (
+    let asks = c.asks_of-asks in (
       nothing_green c.args.b (sized c.args.b _ c.well_formed.0) whole asks.result (asks.ensures whole) nothing,
-      refl,
       refl,
     )
 
@@ -26,7 +23,8 @@ pub returns : goal.returns
 returns c whole room =
     let found = rw c.in-Found.is at c.trouble_of-trouble.ensures in
     let asks = c.asks_of-asks in
-    inr
-    (found_red c.args.b (sized c.args.b _ c.well_formed.0) whole asks.result (asks.ensures whole)
+    let order =
+    found_red c.args.b (sized c.args.b _ c.well_formed.0) whole asks.result (asks.ensures whole)
     c.in-Found.spoiler.0 c.in-Found.stuck.0 found c.in_order-keys.result c.in_order-keys.ensures _ _
-    c.write_order.result room c.write_order.ensures)
+    c.write_order-length.result room c.write_order-length.ensures in
+    (c.write_order-length.result, (refl, order))
