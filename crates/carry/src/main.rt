@@ -59,9 +59,8 @@ fn write_out(rt: &impl Print, bytes: &[u8], n: usize) -> io::Result<()> {
 // Write the file of a board that is green.
 fn write_file(rt: &(impl Print + Eprint), b: Board) -> io::Result<()> {
     let mut list = [0u32; Board::DUTIES];
-    let verdict = verdict::check(b, &mut list);
-    if verdict.number != Answer::DONE {
-        return refuse(rt, verdict.number);
+    if let Err(refusal) = verdict::check(b, &mut list) {
+        return refuse(rt, refusal.number());
     }
     let mut buffer = [0u8; layout::LONGEST];
     match save::save(b, &mut buffer) {

@@ -1,7 +1,9 @@
 // Opening a board file, by value.
 #![tactic(auto)]
 
-ghost use Rattle.std.specs.Prelude.{◌≡◌};
+ghost use Rattle.std.specs.Prelude.{◌≡◌, true};
+ghost use Rattle.board.specs.Good.{good};
+ghost use Rattle.verdict.specs.Checked.{Checked};
 ghost use Rattle.open.specs.Opens.{Opens, refused_open};
 
 use board::{Answer, Board};
@@ -22,6 +24,13 @@ fn refused(number: u8) -> Opened
     Opened { answer, board }
 }
 
+// What check answers on a board that is good.
+fn check_good(b: Board, list: &mut [u32]) -> Answer
+    ensures { good b ≡ true → Checked b list.old list.new result }
+{
+    verdict::check_good(b, list).map_or_else(Answer::from, |_| Answer::plain(Answer::DONE))
+}
+
 // Open a board file: 9, then the checks of reading it, then 8.
 pub fn open(s: &[u8], list: &mut [u32]) -> Opened
     ensures { Opens s.now list.old list.new result }
@@ -34,7 +43,7 @@ pub fn open(s: &[u8], list: &mut [u32]) -> Opened
         return refused(reading.number);
     }
     let board = reading.board;
-    let answer = verdict::check_good(board, list);
+    let answer = check_good(board, list);
     if answer.number != Answer::DONE {
         let smallest = Board::smallest();
         return Opened {

@@ -34,7 +34,7 @@ pub fn refused(b: Board, number: u8) -> Outcome
 pub fn judged(b: Board, after: Board, serial: Serial, list: &mut [u32]) -> Outcome
     ensures { good after ≡ true → Judges b after serial.0 list.old list.new result }
 {
-    let answer = verdict::check_good(after, list);
+    let answer = verdict::check_good(after, list).map_or_else(Answer::from, |_| Answer::plain(Answer::DONE));
     if answer.number != Answer::DONE {
         return Outcome {
             answer,
