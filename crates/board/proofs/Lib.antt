@@ -8,6 +8,7 @@ pub mod SayingLaws
 pub mod RolesIn
 pub mod AtMostOne
 pub mod NeedsLaws
+pub mod RefusalLaws
 pub mod Sentences
 pub mod Changed
 pub mod PoolLaws
