@@ -1,27 +1,26 @@
 -- What reading promises settles it: two readings of the same bytes that keep the promise are one.
-use mathlib.Core.Path.{◌≡◌, sym, ◌∙◌}
+use mathlib.Core.Path.{◌≡◌, refl, sym, ◌∙◌, ap}
 use mathlib.Core.List.{List}
 use Prim.Native.Nat.{ℕ}
-use lib.Dec.{eqb}
-use borrow.Author.Tests.{eqb-true, eqb-false}
-use Rattle.orders.proofs.Tests.{by_test}
+use native.Mathlib.Omega.{arith}
+use Rattle.std.specs.Prelude.{Result, Ok, Err}
+use Rattle.board.specs.declared.Board.{Board}
+use Rattle.board.specs.declared.Refusal.{Refusal}
 use Rattle.board.specs.Numbers as answer
-use Rattle.board.proofs.AnswersLaws.{same_answer}
-use Rattle.file.specs.declared.Reading.{Reading}
+use Rattle.board.specs.Refusals.{number_of, number_answered}
+use Rattle.board.proofs.AnswersLaws.{same_answer, never_answered}
 use Rattle.file.specs.Reads.{read_checks, Reads}
+use Rattle.file.proofs.Refused.{refusal_numbered, same_refusal}
 
-module _ (s : List ℕ) (a b : Reading) (p : Reads s a) (q : Reads s b) where
-  number : a.number ≡ b.number
-  number = same_answer (read_checks s) a.number b.number p.number q.number
+-- a refusal is none of a red board
+not_red : (s : List ℕ) (e : Refusal) → Reads s (Err e) → number_of e ≡ answer.red → ⊥
+not_red s e p = never_answered answer.red (read_checks s) (number_of e) (λ n. omega arith) refl p.number
 
-  board : a.board ≡ b.board
-  board =
-      by_test
-      (eqb a.number answer.done)
-      (λ t. let e = eqb-true a.number answer.done t in p.accepted e ∙ sym (q.accepted (sym number ∙ e)))
-      (λ t.
-      let n = eqb-false a.number answer.done t in
-      p.refused n ∙ sym (q.refused (λ e. n (number ∙ e))))
-
-  pub same_reading : a ≡ b
-  same_reading = λ i. record { number = number i; board = board i }
+pub same_reading : (s : List ℕ) (a b : Result Board Refusal) → Reads s a → Reads s b → a ≡ b
+same_reading s a b p q = settled a b p q (same_answer (read_checks s) (number_answered a) (number_answered b) p.number q.number)
+  where
+    settled : (a b : Result Board Refusal) → Reads s a → Reads s b → number_answered a ≡ number_answered b → a ≡ b
+    settled (Ok x) (Ok y) p q n = ap Ok (p.accepted n ∙ sym (q.accepted n))
+    settled (Ok x) (Err f) p q n = absurd (refusal_numbered f (sym n))
+    settled (Err e) (Ok y) p q n = absurd (refusal_numbered e n)
+    settled (Err e) (Err f) p q n = ap Err (same_refusal e f n (not_red s e p))

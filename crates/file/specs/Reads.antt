@@ -1,13 +1,15 @@
 -- What reading a board file promises, for every byte string.
 use Rattle.std.specs.Prelude.{◌≡◌, false, List, [], ◌∷◌, ◌++◌, map, ℕ, ◌-◌, ◌<◌, length, replicate}
+use Rattle.std.specs.Prelude.{Result, Ok, Err}
 use Rattle.board.specs.declared.Board.{Board}
+use Rattle.board.specs.declared.Refusal.{Refusal}
 use Rattle.board.specs.Answers.{Check, check, Answers}
 use Rattle.board.specs.Filler.{no_permission, no_rule, no_duty, smallest_board}
 use Rattle.board.specs.Good.{counts_fit}
 use Rattle.board.specs.Limits.{max_users, max_permissions, max_rules, max_duties}
 use Rattle.board.specs.Numbers as answer
 use Rattle.board.specs.Permitted.{below}
-use Rattle.file.specs.declared.Reading.{Reading}
+use Rattle.board.specs.Refusals.{number_answered}
 use Rattle.layout.specs.Bytes.{two}
 use Rattle.layout.specs.Layout.{version, header_size, counts_of, clock_of, next_of, stated_total, longest, laid_out}
 use Rattle.file.specs.Records.{holding_at, permission_at, rule_at, duty_at, fault_numbers, first_fault}
@@ -49,9 +51,14 @@ board_of s =
       duties = filled (duty_at s) no_duty max_duties (counts_of s).duties;
     }
 
+-- The board that reading a file leaves: a refused one leaves the smallest board.
+abbrev pub board_read : Result Board Refusal → Board
+board_read (Ok b) = b
+board_read (Err e) = smallest_board
+
 -- The answer is the number of the first check that applies; an accepted file gives the board that it says, a
 -- refused one the smallest board.
-pub record Reads (s : List ℕ) (r : Reading) : Type 0 where
-  pub number : Answers (read_checks s) r.number
-  pub accepted : r.number ≡ answer.done → r.board ≡ board_of s
-  pub refused : (r.number ≡ answer.done → ⊥) → r.board ≡ smallest_board
+pub record Reads (s : List ℕ) (r : Result Board Refusal) : Type 0 where
+  pub number : Answers (read_checks s) (number_answered r)
+  pub accepted : number_answered r ≡ answer.done → board_read r ≡ board_of s
+  pub refused : (number_answered r ≡ answer.done → ⊥) → board_read r ≡ smallest_board

@@ -1,35 +1,36 @@
 // The fault of one record of a board file: 5 where a field is outside its range or spare is not zero, then 7
 // where its start is after its end, then 6 where it is not above the one before it; 0 is no fault.
 ghost use Rattle.std.specs.Prelude.{◌≡◌, ◌+◌, ◌*◌, ◌≤◌, length};
+ghost use Rattle.board.specs.Refusals.{number_answered};
 ghost use Rattle.layout.specs.Layout.{counts_of, holdings_from, permissions_from, rules_from, duties_from};
 ghost use Rattle.layout.specs.Layout.{holding_size, permission_size, rule_size, duty_size};
 ghost use Rattle.file.specs.Records.{fault_of, holding_fault, permission_fault, rule_fault, duty_fault};
 
 use crate::fields::{duty_at, holding_at, permission_at, rule_at, rule_spare, second_fits};
 use crate::header::next_of;
-use board::{Answer, Counts};
+use board::{Counts, Refusal};
 
 // The fault by its three tests, in their order.
-fn fault_of(fits: bool, window: bool, above: bool) -> u8
-    ensures { result ≡ fault_of fits window above }
+fn fault_of(fits: bool, window: bool, above: bool) -> Result<(), Refusal>
+    ensures { number_answered result ≡ fault_of fits window above }
 {
     if !fits {
-        return Answer::FIELD;
+        return Err(Refusal::Field);
     }
     if !window {
-        return Answer::WINDOW;
+        return Err(Refusal::Window);
     }
     if !above {
-        return Answer::NOT_ABOVE;
+        return Err(Refusal::NotAbove);
     }
-    Answer::DONE
+    Ok(())
 }
 
 // The fault of the holding of this number: it has no window and need not rise.
-pub(crate) fn holding_fault(s: &[u8], counts: Counts, i: usize) -> u8
+pub(crate) fn holding_fault(s: &[u8], counts: Counts, i: usize) -> Result<(), Refusal>
     requires { (counts ≡ counts_of s.now)
         × (holdings_from + i * holding_size + holding_size ≤ length s.now) }
-    ensures { result ≡ holding_fault s.now i }
+    ensures { number_answered result ≡ holding_fault s.now i }
 {
     fault_of(
         records::set_fits(holding_at(s, i), counts.roles),
@@ -39,10 +40,10 @@ pub(crate) fn holding_fault(s: &[u8], counts: Counts, i: usize) -> u8
 }
 
 // The fault of the permission of this number.
-pub(crate) fn permission_fault(s: &[u8], counts: Counts, i: usize) -> u8
+pub(crate) fn permission_fault(s: &[u8], counts: Counts, i: usize) -> Result<(), Refusal>
     requires { (counts ≡ counts_of s.now)
         × (permissions_from counts + i * permission_size + permission_size ≤ length s.now) }
-    ensures { result ≡ permission_fault s.now i }
+    ensures { number_answered result ≡ permission_fault s.now i }
 {
     let p = permission_at(s, counts, i);
     let fits = records::permission_fits(p, counts.roles);
@@ -54,10 +55,10 @@ pub(crate) fn permission_fault(s: &[u8], counts: Counts, i: usize) -> u8
 }
 
 // The fault of the rule of this number.
-pub(crate) fn rule_fault(s: &[u8], counts: Counts, i: usize) -> u8
+pub(crate) fn rule_fault(s: &[u8], counts: Counts, i: usize) -> Result<(), Refusal>
     requires { (counts ≡ counts_of s.now)
         × (rules_from counts + i * rule_size + rule_size ≤ length s.now) }
-    ensures { result ≡ rule_fault s.now i }
+    ensures { number_answered result ≡ rule_fault s.now i }
 {
     let r = rule_at(s, counts, i);
     let fits = records::rule_fits(r, counts.roles) & (rule_spare(s, counts, i) == 0);
@@ -69,10 +70,10 @@ pub(crate) fn rule_fault(s: &[u8], counts: Counts, i: usize) -> u8
 }
 
 // The fault of the duty of this number.
-pub(crate) fn duty_fault(s: &[u8], counts: Counts, i: usize) -> u8
+pub(crate) fn duty_fault(s: &[u8], counts: Counts, i: usize) -> Result<(), Refusal>
     requires { (counts ≡ counts_of s.now)
         × (duties_from counts + i * duty_size + duty_size ≤ length s.now) }
-    ensures { result ≡ duty_fault s.now i }
+    ensures { number_answered result ≡ duty_fault s.now i }
 {
     let d = duty_at(s, counts, i);
     let next = next_of(s);

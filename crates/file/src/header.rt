@@ -2,11 +2,12 @@
 ghost use Rattle.std.specs.Prelude.{◌≡◌, ◌≤◌, length};
 ghost use Rattle.board.specs.Answers.{Answers};
 ghost use Rattle.board.specs.Good.{counts_fit};
+ghost use Rattle.board.specs.Refusals.{number_answered};
 ghost use Rattle.layout.specs.Layout.{header_size, counts_of, next_of, laid_out};
 ghost use Rattle.file.specs.Reads.{header_checks};
 
 use crate::bytes::{four_at, two_at};
-use board::{Answer, Counts, Serial};
+use board::{Counts, Refusal, Serial};
 
 // The counts in the header.
 pub(crate) fn counts_of(s: &[u8]) -> Counts
@@ -58,24 +59,24 @@ fn laid_out(s: &[u8]) -> bool
                     & ((total == layout::total_of(counts)) & (total == s.len())))))
 }
 
-// The answer of the header: 1, 2, 3, 4, 18, or 0.
-pub(crate) fn header_answer(s: &[u8]) -> u8
-    ensures { Answers (header_checks s.now) result }
+// Check the header: 1, 2, 3, 4, 18, or 0.
+pub(crate) fn check_header(s: &[u8]) -> Result<(), Refusal>
+    ensures { Answers (header_checks s.now) (number_answered result) }
 {
     if s.len() < layout::HEADER {
-        return Answer::SHORT;
+        return Err(Refusal::Short);
     }
     if two_at(s, layout::VERSION_AT) != layout::VERSION {
-        return Answer::VERSION;
+        return Err(Refusal::Version);
     }
     if !counts_right(s) {
-        return Answer::COUNT;
+        return Err(Refusal::Count);
     }
     if !laid_out(s) {
-        return Answer::LAYOUT;
+        return Err(Refusal::Layout);
     }
     if layout::LONGEST < four_at(s, layout::TOTAL_AT) as usize {
-        return Answer::LONG;
+        return Err(Refusal::Long);
     }
-    Answer::DONE
+    Ok(())
 }

@@ -1,10 +1,11 @@
 // The first faulty record of a board file: its parts by number, and the records of each.
 ghost use Rattle.std.specs.Prelude.{◌≡◌, ◌<◌};
+ghost use Rattle.board.specs.Refusals.{number_answered};
 ghost use Rattle.file.specs.Records.{first_fault};
 ghost use Rattle.file.specs.Parts.{Complete, size_of, fault_at};
 
 use crate::faults::{duty_fault, holding_fault, permission_fault, rule_fault};
-use board::{Answer, Counts};
+use board::{Counts, Refusal};
 
 // How many parts there are.
 const PARTS: u8 = 4;
@@ -26,9 +27,9 @@ fn size_of(counts: Counts, part: u8) -> usize
 }
 
 // The fault of the record of this number in a part.
-fn fault_at(s: &[u8], counts: Counts, part: u8, i: usize) -> u8
+fn fault_at(s: &[u8], counts: Counts, part: u8, i: usize) -> Result<(), Refusal>
     requires { Complete s.now counts × (i < size_of counts part) }
-    ensures { result ≡ fault_at s.now part i }
+    ensures { number_answered result ≡ fault_at s.now part i }
 {
     if part == 0 {
         return holding_fault(s, counts, i);
@@ -43,24 +44,18 @@ fn fault_at(s: &[u8], counts: Counts, part: u8, i: usize) -> u8
 }
 
 // The fault of the first faulty record in file order: the parts in turn, and the records of each.
-pub(crate) fn first_fault(s: &[u8], counts: Counts) -> u8
+pub(crate) fn first_fault(s: &[u8], counts: Counts) -> Result<(), Refusal>
     requires { Complete s.now counts }
-    ensures { result ≡ first_fault s.now }
+    ensures { number_answered result ≡ first_fault s.now }
 {
-    let mut fault = Answer::DONE;
-    let mut part: u8 = 0;
-    'parts: while part < PARTS {
-        let n = size_of(counts, part);
-        let mut i: usize = 0;
-        while i < n {
-            let found = fault_at(s, counts, part, i);
-            if found != Answer::DONE {
-                fault = found;
+    let mut found = Ok(());
+    'parts: for part in 0..PARTS {
+        for i in 0..size_of(counts, part) {
+            found = fault_at(s, counts, part, i);
+            if found.is_err() {
                 break 'parts;
             }
-            i += 1;
         }
-        part += 1;
     }
-    fault
+    found
 }

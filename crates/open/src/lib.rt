@@ -38,11 +38,10 @@ pub fn open(s: &[u8], list: &mut [u32]) -> Opened
     if list.len() < Board::DUTIES {
         return refused(Answer::LIST);
     }
-    let reading = file::read(s);
-    if reading.number != Answer::DONE {
-        return refused(reading.number);
-    }
-    let board = reading.board;
+    let board = match file::read(s) {
+        Ok(board) => board,
+        Err(refusal) => return refused(refusal.number()),
+    };
     let answer = check_good(board, list);
     if answer.number != Answer::DONE {
         let smallest = Board::smallest();

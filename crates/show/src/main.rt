@@ -51,11 +51,8 @@ fn main(rt: HostRuntime) -> io::Result<()> {
     let mut room = [0u8; layout::LONGEST + 1];
     let mut input = rt.reader();
     let n = streams::read_full(&mut input, &mut room)?;
-    let reading = file::read(&room[..n]);
-    let number = reading.number;
-    if number != Answer::DONE {
-        return println!(rt; "refused {number}");
+    match file::read(&room[..n]) {
+        Ok(b) => show(&rt, b),
+        Err(refusal) => println!(rt; "refused {}", refusal.number()),
     }
-    let b = reading.board;
-    show(&rt, b)
 }

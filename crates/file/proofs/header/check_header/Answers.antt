@@ -1,4 +1,4 @@
--- `header_answer` meets its contract: the checks in their order.
+-- `check_header` meets its contract: the checks in their order.
 use mathlib.Core.Path.{◌≡◌, refl, sym, ◌∙◌}
 use mathlib.Core.Logic.{inl, inr}
 use mathlib.Core.Bool.{Bool, true, false}
@@ -9,8 +9,8 @@ use lib.ListN.{drop}
 use Rattle.orders.proofs.Tests.{clash}
 use Rattle.board.specs.Answers.{Check, Answers}
 use Rattle.file.specs.Reads.{header_checks}
-use Rattle.file.proofs.header.header_answer.Goals as goal
-use Rattle.file.proofs.header.header_answer.Goals.{Else-not-counts_right, Else-not-laid_out, Else-two_at-ne-VERSION}
+use Rattle.file.proofs.header.check_header.Goals as goal
+use Rattle.file.proofs.header.check_header.Goals.{Else-not-counts_right, Else-not-laid_out, Else-two_at-ne-VERSION}
 
 failed : {result test : Bool} → result ≡ test → result ≡ false → test ≡ false
 failed e n = sym e ∙ n
