@@ -1,2 +1,3 @@
 pub mod FitsLaws
 pub mod AfterLaws
+mod Room

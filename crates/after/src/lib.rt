@@ -5,7 +5,8 @@
 ghost use Rattle.std.specs.Prelude.{◌≡◌};
 ghost use Rattle.after.specs.Boards.{acted_board, withdrawn_board, did_board};
 
-use board::{Board, Serial, What};
+use board::{Board, Counts, Serial, What};
+use pool::Rest;
 
 // The board with the change made that this makes, at the clock.
 pub fn acted(b: Board, clock: u32, what: What) -> Board
@@ -24,16 +25,15 @@ pub fn acted(b: Board, clock: u32, what: What) -> Board
 pub fn withdrawn(b: Board, clock: u32, serial: Serial) -> Board
     ensures { result ≡ withdrawn_board b clock serial.0 }
 {
-    let duties = b.duties;
-    let n = b.counts.duties as usize;
-    let rest = pool::without_serial(duties, n, serial);
-    let left = rest.duties;
-    let mut counts = b.counts;
-    counts.duties = rest.count;
+    let Rest { duties, count } = pool::without_serial(b.duties(), serial);
+    let counts = Counts {
+        duties: count,
+        ..b.counts
+    };
     Board {
         counts,
         clock,
-        duties: left,
+        duties,
         ..b
     }
 }
@@ -42,16 +42,17 @@ pub fn withdrawn(b: Board, clock: u32, serial: Serial) -> Board
 pub fn did(b: Board, clock: u32, serial: Serial, what: What) -> Board
     ensures { result ≡ did_board b clock serial.0 what }
 {
-    let all = b.duties;
-    let count = b.counts.duties as usize;
-    let rest = pool::without_serial(all, count, serial);
-    let others = rest.duties;
+    let Rest {
+        duties: others,
+        count: left,
+    } = pool::without_serial(b.duties(), serial);
     let mut held = b.holdings;
     permitted::make_change(&mut held, what);
-    let mut fewer = b.counts;
-    fewer.duties = rest.count;
     Board {
-        counts: fewer,
+        counts: Counts {
+            duties: left,
+            ..b.counts
+        },
         clock,
         holdings: held,
         duties: others,

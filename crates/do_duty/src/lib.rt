@@ -1,7 +1,6 @@
 // Do an open duty of the live board now, by value.
 #![tactic(auto)]
 
-ghost use Rattle.std.specs.Prelude.{take};
 ghost use Rattle.board.specs.Answers.{Answers};
 ghost use Rattle.outcomes.specs.Outcomes.{Flagged};
 ghost use Rattle.do_duty.specs.Does.{Does};
@@ -9,7 +8,6 @@ ghost use Rattle.do_duty.specs.Inside.{board_checks, time_checks};
 
 use board::{Answer, Board, Duty, Serial};
 use outcomes::Outcome;
-use pool::Found;
 use requests::RequestDo;
 
 // 19, where the board is not whole; 10, where the clock is below the least that it may be; or 0.
@@ -25,14 +23,14 @@ fn board_refusal(whole: bool, least: u32, clock: u32) -> u8
     Answer::DONE
 }
 
-// For the duty d, where the first n duties are open: 13, 14, or 0 where neither applies.
-fn time_refusal(duties: [Duty; Board::DUTIES], n: usize, d: Duty, clock: u32) -> u8
-    ensures { Answers (time_checks (take n duties) d clock) result }
+// For the duty d among the open duties: 13, 14, or 0 where neither applies.
+fn time_refusal(duties: &[Duty], d: Duty, clock: u32) -> u8
+    ensures { Answers (time_checks duties.now d clock) result }
 {
     if !windows::in_window(clock, d) {
         return Answer::OUTSIDE;
     }
-    if pool::is_held_back(duties, n, d) {
+    if pool::is_held_back(duties, d) {
         return Answer::HELD_BACK;
     }
     Answer::DONE
@@ -47,14 +45,13 @@ pub fn do_duty(b: Board, q: RequestDo) -> Outcome
     if number != Answer::DONE {
         return outcomes::refused(b, number);
     }
-    let duties = b.duties;
-    let n = b.counts.duties as usize;
+    let duties = b.duties();
     let serial = q.serial;
-    let found = pool::with_serial(duties, n, serial);
-    let Found::Open(d) = found else {
+    let found = pool::with_serial(duties, serial);
+    let Some(d) = found else {
         return outcomes::refused(b, Answer::NOT_OPEN);
     };
-    let reason = time_refusal(duties, n, d, q.clock);
+    let reason = time_refusal(duties, d, q.clock);
     if reason != Answer::DONE {
         return outcomes::refused(b, reason);
     }

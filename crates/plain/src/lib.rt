@@ -35,7 +35,7 @@ fn walk_rest(b: Board, left: usize, at: usize, list: &mut [u32]) -> usize
     let mut i: usize = 0;
     while (i < n) & (i < Board::DUTIES) {
         let d = duties[i];
-        if !pool::is_held_back(duties, n, d) {
+        if !pool::is_held_back(b.duties(), d) {
             let serial = d.serial;
             let what = d.what;
             let mut end = at + 1;

@@ -1,9 +1,9 @@
 -- What a search for a serial tells: where none is found no open duty has it; and what is found is the open
 -- duty that has it.
-use mathlib.Core.Path.{◌≡◌, sym, ap, ◌∙◌, subst}
+use mathlib.Core.Path.{◌≡◌, sym, ◌∙◌, subst}
 use mathlib.Core.Logic.{⊎_elim}
-use mathlib.Core.Bool.{Bool, true, false, true≢false}
-use Rattle.std.specs.Prelude.{Some}
+use Rattle.std.specs.Prelude.{None, Some}
+use Rattle.std.proofs.lemmas.Option.{same_Some, none-some}
 use Prim.Native.Nat.{ℕ}
 use borrow.Author.Tests.{eqb-true, eqb-false}
 use Rattle.orders.specs.Lists.{Mem, find}
@@ -12,18 +12,6 @@ use Rattle.board.specs.declared.Duty.{Duty}
 use Rattle.board.specs.After.{named}
 use Rattle.board.specs.Open.{NotOpen}
 use Rattle.board.specs.View.{View}
-use Rattle.pool.specs.declared.Found.{Found}
-use Rattle.pool.specs.declared.Found.TheVariants.{Open, Missing}
-use Rattle.pool.specs.Found.{found}
-
-abbrev is_open : Found → Bool
-is_open (Open d) = true
-is_open Missing = false
-
--- the duty that was found; this one, where none was
-abbrev duty_or : Duty → Found → Duty
-duty_or other (Open d) = d
-duty_or other Missing = other
 
 -- d is open, has the serial, and is the one that a search finds
 pub record FoundOpen (v : View) (serial : ℕ) (d : Duty) : Type 0 where
@@ -32,18 +20,18 @@ pub record FoundOpen (v : View) (serial : ℕ) (d : Duty) : Type 0 where
   pub finds : find (named serial) v.duties ≡ Some d
 
 module _ (v : View) (serial : ℕ) where
-  pub found_missing : found (find (named serial) v.duties) ≡ Missing → NotOpen v serial
+  pub found_missing : find (named serial) v.duties ≡ None → NotOpen v serial
   found_missing e d m is =
       ⊎_elim
       (λ n. eqb-false serial d.serial.0 (any_false (named serial) n.missed m) (sym is))
-      (λ f. true≢false (ap is_open (sym (ap found f.finds) ∙ e)))
+      (λ f. none-some f.x (sym e ∙ f.finds))
       (find_case (named serial) v.duties)
 
-  pub found_open : (d : Duty) → found (find (named serial) v.duties) ≡ Open d → FoundOpen v serial d
+  pub found_open : (d : Duty) → find (named serial) v.duties ≡ Some d → FoundOpen v serial d
   found_open d e =
       ⊎_elim
-      (λ n. absurd (true≢false (sym (ap is_open (sym (ap found n.finds) ∙ e)))))
-      (λ f. subst (FoundOpen v serial) (ap (duty_or d) (sym (ap found f.finds) ∙ e)) (first f))
+      (λ n. absurd (none-some d (sym n.finds ∙ e)))
+      (λ f. subst (FoundOpen v serial) (same_Some _ _ (sym f.finds ∙ e)) (first f))
       (find_case (named serial) v.duties)
     where
       first : (f : Finds (named serial) v.duties) → FoundOpen v serial f.x

@@ -9,84 +9,48 @@ ghost use Rattle.board.specs.Filler.{no_duty};
 ghost use Rattle.board.specs.Limits.{max_duties};
 ghost use Rattle.board.specs.Saying.{padded};
 ghost use Rattle.board.specs.Windows.{wholly_before};
-ghost use Rattle.pool.specs.Found.{found};
 
 use board::{Board, Duty, Serial};
 
-// A duty that was looked for, or none.
-#[derive(Clone, Copy)]
-pub enum Found {
-    Open(Duty),
-    Missing,
-}
-
-// Duties at the start of the room, their number, and filler in the rest.
+// Duties at the start of the room, their number, and filler in the rest. The room is of fixed size: what
+// makes it cannot fail, so it allocates nothing.
 #[derive(Clone, Copy)]
 pub struct Rest {
     pub duties: [Duty; Board::DUTIES],
     pub count: u16,
 }
 
-// Whether a duty has the serial.
-fn has_serial(d: Duty, serial: Serial) -> bool
-    ensures { result ≡ named serial.0 d }
+// The duty with the serial.
+pub fn with_serial(duties: &[Duty], serial: Serial) -> Option<Duty>
+    ensures { result ≡ find (named serial.0) duties.now }
 {
-    let own = d.serial;
-    serial.0 == own.0
+    duties.iter().copied().find(|d| d.serial == serial)
 }
 
-// The duty with the serial, among the first n.
-pub fn with_serial(duties: [Duty; Board::DUTIES], n: usize, serial: Serial) -> Found
-    ensures { result ≡ found (find (named serial.0) (take n duties)) }
+// Whether one of the duties is wholly before d.
+pub fn is_held_back(duties: &[Duty], d: Duty) -> bool
+    ensures { result ≡ any (λ y. wholly_before y d) duties.now }
 {
-    let mut i: usize = 0;
-    while (i < n) & (i < Board::DUTIES) {
-        let d = duties[i];
-        if has_serial(d, serial) {
-            return Found::Open(d);
-        }
-        i += 1;
-    }
-    Found::Missing
+    duties.iter().any(|y| windows::wholly_before(*y, d))
 }
 
-// Whether one of the first n duties is wholly before d.
-pub fn is_held_back(duties: [Duty; Board::DUTIES], n: usize, d: Duty) -> bool
-    ensures { result ≡ any (λ y. wholly_before y d) (take n duties) }
+// Of the duties, as many as the room holds, those but the one with the serial, closed up; the rest of the
+// room is filler.
+pub fn without_serial(duties: &[Duty], serial: Serial) -> Rest
+    ensures { (result.duties ≡ padded no_duty max_duties (without_serial serial.0 (take max_duties duties.now)))
+        × (result.count ≡ length (without_serial serial.0 (take max_duties duties.now))) }
 {
-    let mut i: usize = 0;
-    while (i < n) & (i < Board::DUTIES) {
-        let y = duties[i];
-        if windows::wholly_before(y, d) {
-            return true;
-        }
-        i += 1;
-    }
-    false
-}
-
-// The first n duties but the one with the serial, closed up in place; then the rest of the room is filled.
-pub fn without_serial(duties: [Duty; Board::DUTIES], n: usize, serial: Serial) -> Rest
-    ensures { (result.duties ≡ padded no_duty max_duties (without_serial serial.0 (take n duties)))
-        × (result.count ≡ length (without_serial serial.0 (take n duties))) }
-{
-    let mut out = duties;
+    let mut left = [Duty::filler(); Board::DUTIES];
     let mut count: u16 = 0;
-    let mut i: usize = 0;
-    while (i < n) & (i < Board::DUTIES) {
-        let d = out[i];
-        if !has_serial(d, serial) {
-            let at = count as usize;
-            out[at] = d;
+    let few = &duties[..duties.len().min(Board::DUTIES)];
+    for d in few {
+        if d.serial != serial {
+            left[count as usize] = *d;
             count += 1;
         }
-        i += 1;
     }
-    let filler = Duty::filler();
-    let mut k = count as usize;
-    while k < Board::DUTIES {
-        out[k] = filler;
-        k += 1;
+    Rest {
+        duties: left,
+        count,
     }
-    Rest { duties: out, count }
 }

@@ -81,7 +81,7 @@ pub(crate) fn show_rest(
     let mut i: usize = 0;
     while i < count {
         let d = duties[i];
-        if !pool::is_held_back(duties, n, d) {
+        if !pool::is_held_back(b.duties(), d) {
             let serial = d.serial;
             let what = d.what;
             let next = with_next(done, serial);

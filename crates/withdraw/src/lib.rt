@@ -7,7 +7,6 @@ ghost use Rattle.withdraw.specs.Withdraws.{withdraw_earlier, Withdraws};
 
 use board::{Answer, Board, Serial};
 use outcomes::Outcome;
-use pool::Found;
 use requests::RequestWithdraw;
 
 // 19, 9, 10, 12, or 0 where none of these applies.
@@ -23,13 +22,11 @@ fn refusal(b: Board, room: usize, q: RequestWithdraw) -> u8
     if q.clock < b.clock {
         return Answer::CLOCK;
     }
-    let duties = b.duties;
-    let n = b.counts.duties as usize;
     let serial = q.serial;
-    let found = pool::with_serial(duties, n, serial);
-    if let Found::Missing = found {
+    let found = pool::with_serial(b.duties(), serial);
+    let Some(_) = found else {
         return Answer::NOT_OPEN;
-    }
+    };
     Answer::DONE
 }
 

@@ -16,7 +16,7 @@ use Rattle.do_duty.specs.Inside.{duty_checks}
 use Rattle.do_duty.proofs.Doing.{refused_does, board_answers, good_board, past_board, past_open}
 use Rattle.do_duty.proofs.Doing.{time_answers, may_not, may_do, done_does}
 use Rattle.do_duty.proofs.do_duty.Goals as goal
-use Rattle.do_duty.proofs.do_duty.Goals.{Else-number-ne-DONE, In-Open}
+use Rattle.do_duty.proofs.do_duty.Goals.{Else-number-ne-DONE, In-Some}
 
 -- past 19 and 10
 good_here : (c : Else-number-ne-DONE) → good c.args.b ≡ true
@@ -36,29 +36,29 @@ past_here c =
     c.if-number-ne-DONE.false
 
 -- the duty was found
-good_found : (c : In-Open) → good c.args.b ≡ true
+good_found : (c : In-Some) → good c.args.b ≡ true
 good_found c =
     let tested = c.is_good-whole in
     let number = c.board_refusal-number in
     good_board c.args.b c.args.q tested.result tested.ensures number.result number.ensures
     c.if-number-ne-DONE.false
 
-is_found : (c : In-Open) → FoundOpen (view c.args.b) c.args.q.serial.0 c.in-Open.d
+is_found : (c : In-Some) → FoundOpen (view c.args.b) c.args.q.serial.0 c.in-Some.d
 is_found c =
-    found_open (view c.args.b) c.args.q.serial.0 c.in-Open.d
-    (sym c.with_serial-found.ensures ∙ c.in-Open.is)
+    found_open (view c.args.b) c.args.q.serial.0 c.in-Some.d
+    (rw c.duties-duties.ensures at (sym c.with_serial-found.ensures ∙ c.in-Some.is))
 
 -- what is answered for the duty is answered
 answers_here :
-    (c : In-Open) (n : ℕ)
-    → Answers (duty_checks c.args.b c.in-Open.d c.args.q.clock) n
+    (c : In-Some) (n : ℕ)
+    → Answers (duty_checks c.args.b c.in-Some.d c.args.q.clock) n
     → Answers (do_checks c.args.b c.args.q) n
 answers_here c n a =
     let tested = c.is_good-whole in
     let number = c.board_refusal-number in
     past_board c.args.b c.args.q tested.result tested.ensures number.result number.ensures
     c.if-number-ne-DONE.false n
-    (past_open c.args.b (good_found c) c.args.q c.in-Open.d (is_found c) n a)
+    (past_open c.args.b (good_found c) c.args.q c.in-Some.d (is_found c) n a)
 
 pub returns-then-number-ne-DONE : goal.returns-then-number-ne-DONE
 returns-then-number-ne-DONE c =
@@ -72,42 +72,42 @@ returns-then-number-ne-DONE c =
 pub returns-in_default : goal.returns-in_default
 returns-in_default c =
     let here = (goal.at.returns-in_default c).Else-number-ne-DONE in
-    let missing = sym c.with_serial-found.ensures ∙ c.in_default.is in
+    let missing = rw c.duties-duties.ensures at (sym c.with_serial-found.ensures ∙ c.in_default.is) in
     refused_does c.args.b c.args.q c.refused-in_default.result _ c.refused-in_default.ensures
     (past_here here _ (inl (found_missing (view c.args.b) c.args.q.serial.0 missing, refl)))
     (λ e. omega arith)
 
 pub returns-then-reason-ne-DONE : goal.returns-then-reason-ne-DONE
 returns-then-reason-ne-DONE c =
-    let here = (goal.at.returns-then-reason-ne-DONE c).In-Open in
+    let here = (goal.at.returns-then-reason-ne-DONE c).In-Some in
     let reason = c.time_refusal-reason in
     let refuses = c.if-reason-ne-DONE.true in
     refused_does c.args.b c.args.q c.refused-then-reason-ne-DONE.result reason.result
     c.refused-then-reason-ne-DONE.ensures
     (answers_here here reason.result
-    (time_answers c.args.b (good_found here) c.args.q c.in-Open.d (is_found here) reason.result
-    reason.ensures refuses)) refuses
+    (time_answers c.args.b (good_found here) c.args.q c.in-Some.d (is_found here) reason.result
+    (rw c.duties-duties.ensures at reason.ensures) refuses)) refuses
 
 pub returns-then-not-permitted : goal.returns-then-not-permitted
 returns-then-not-permitted c =
-    let here = (goal.at.returns-then-not-permitted c).In-Open in
+    let here = (goal.at.returns-then-not-permitted c).In-Some in
     let reason = c.time_refusal-reason in
     refused_does c.args.b c.args.q c.refused-then-not-permitted.result _
     c.refused-then-not-permitted.ensures
     (answers_here here _
-    (may_not c.args.b (good_found here) c.args.q c.in-Open.d (is_found here) reason.result
-    reason.ensures c.if-reason-ne-DONE.false c.permitted.result c.permitted.ensures
+    (may_not c.args.b (good_found here) c.args.q c.in-Some.d (is_found here) reason.result
+    (rw c.duties-duties.ensures at reason.ensures) c.if-reason-ne-DONE.false c.permitted.result c.permitted.ensures
     c.if-not-permitted.true))
     (λ e. omega arith)
 
 pub returns : goal.returns
 returns c =
-    let here = (goal.at.returns c).In-Open in
+    let here = (goal.at.returns c).In-Some in
     let reason = c.time_refusal-reason in
-    done_does c.args.b (good_found here) c.args.q c.in-Open.d (is_found here)
+    done_does c.args.b (good_found here) c.args.q c.in-Some.d (is_found here)
     (sized c.args.b _ c.well_formed.0) c.done-answer.result c.did-board.result c.done-answer.ensures
     c.did-board.ensures
     (answers_here here _
-    (may_do c.args.b (good_found here) c.args.q c.in-Open.d (is_found here) reason.result
-    reason.ensures c.if-reason-ne-DONE.false c.permitted.result c.permitted.ensures
+    (may_do c.args.b (good_found here) c.args.q c.in-Some.d (is_found here) reason.result
+    (rw c.duties-duties.ensures at reason.ensures) c.if-reason-ne-DONE.false c.permitted.result c.permitted.ensures
     c.if-not-permitted.false))

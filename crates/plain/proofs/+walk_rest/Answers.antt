@@ -31,7 +31,7 @@ returns-then-end-ne0 t c =
     let here = in_turn b.duties b.counts.duties l.i long c.loop-i-test.true in
     let room : l.i < length (view b).duties = rw length-take here in
     let is = get_or-take b.counts.duties b.duties l.i no_duty (omega arith) in
-    let next = sym (ap not c.is_held_back.ensures) ∙ ap not c.if-not-is_held_back.true in
+    let next = sym (ap not (rw c.duties.ensures at c.is_held_back.ensures)) ∙ ap not c.if-not-is_held_back.true in
     let test = sym c.permitted.ensures in
     let tried : Ended (found_with b s.left d) d s.at l.list c.if-permitted.end c.if-permitted.list =
     elim c.if-permitted.branch [
@@ -52,7 +52,7 @@ loop-i-preserved t c =
     let here = in_turn b.duties b.counts.duties l.i long c.loop-i-test.true in
     let room : l.i < length (view b).duties = rw length-take here in
     let is = get_or-take b.counts.duties b.duties l.i no_duty (omega arith) in
-    let held = sym (ap not c.is_held_back.ensures) in
+    let held = sym (ap not (rw c.duties.ensures at c.is_held_back.ensures)) in
     elim c.if-not-is_held_back.branch [
       | then-not-is_held_back+else-end-ne0 w ↦
           let test = sym w.permitted.ensures in

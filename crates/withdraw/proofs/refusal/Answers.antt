@@ -12,10 +12,10 @@ use Rattle.board.specs.View.{view}
 use Rattle.pool.proofs.FoundLaws.{found_missing, found_open}
 use Rattle.withdraw.proofs.refusal.Goals as goal
 
-pub returns-in-Missing : goal.returns-in-Missing
-returns-in-Missing c =
+pub returns-in_default : goal.returns-in_default
+returns-in_default c =
     let whole : good c.args.b ≡ true = search rules in
-    let missing = sym c.with_serial-found.ensures ∙ c.in-Missing.is in
+    let missing = rw c.duties.ensures at (sym c.with_serial-found.ensures ∙ c.in_default.is) in
     inr (
       λ e. clash whole e,
       inr (
@@ -27,7 +27,7 @@ returns-in-Missing c =
 pub returns : goal.returns
 returns c =
     let whole : good c.args.b ≡ true = search rules in
-    let found = sym c.with_serial-found.ensures ∙ c.in_default.is in
+    let found = rw c.duties.ensures at (sym c.with_serial-found.ensures ∙ c.in-Some.is) in
     let open_one = found_open (view c.args.b) c.args.q.serial.0 _ found in
     inr (
       λ e. clash whole e,
