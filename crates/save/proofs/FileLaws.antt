@@ -1,8 +1,8 @@
 -- Laws of a board as a file: how long it is, and that header and parts put one after the other are the file.
-use mathlib.Core.Path.{◌≡◌, refl, ap, ◌∙◌}
+use mathlib.Core.Path.{◌≡◌, refl, sym, ap, subst, ◌∙◌}
 use mathlib.Core.Bool.{true}
 use mathlib.Core.List.{List, [], ◌++◌}
-use Prim.Native.Nat.{ℕ, ◌+◌, ◌*◌, ◌≤◌}
+use Prim.Native.Nat.{ℕ, ◌+◌, ◌≤◌}
 use native.Mathlib.Omega.{arith}
 use lib.ListN.{length, take, length-append}
 use lib.Seq.{length-take-le}
@@ -13,9 +13,11 @@ use Rattle.board.specs.Good.{good}
 use Rattle.board.specs.View.{View, view}
 use Rattle.board.proofs.GoodLaws.{good→counts}
 use Rattle.layout.specs.Bytes.{four_bytes}
-use Rattle.layout.specs.Layout.{holding_size, permission_size, rule_size, duty_size, total_of, longest}
-use Rattle.put.specs.Put.{Put}
-use Rattle.put.proofs.PutLaws.{put_last, put_then}
+use Rattle.layout.specs.Layout.{header_size, holding_size}
+use Rattle.layout.specs.Layout.{permission_size, rule_size, duty_size, total_of, longest}
+use Rattle.put.specs.declared.Writer.{Writer}
+use Rattle.put.specs.Writes.{Writes}
+use Rattle.put.proofs.WriteLaws.{writes_last, writes_then}
 use Rattle.save.specs.FileOf.{
   counts_said,
   header_bytes,
@@ -26,7 +28,7 @@ use Rattle.save.specs.FileOf.{
   file_of,
 }
 use Rattle.save.specs.Saves.{saved}
-use Rattle.save.proofs.PartLaws.{part_length, first_length}
+use Rattle.save.proofs.PartLaws.{part_length}
 
 -- ---- how long it is
 
@@ -59,6 +61,36 @@ file_length v held =
       part_length rule_bytes rule_size (λ x. refl) v.rules,
       part_length duty_bytes duty_size (λ x. refl) v.duties,
     )
+
+-- as long as the header and its parts
+pub saved_parts :
+    (b : Board)
+    → length (saved b)
+    ≡ header_size
+    + length (part four_bytes (view b).holdings)
+    + length (part permission_bytes (view b).permissions)
+    + length (part rule_bytes (view b).rules)
+    + length (part duty_bytes (view b).duties)
+unfolding file_of
+saved_parts b =
+    five_long (header_bytes (counts_said (view b)) b.clock b.next.0) (part four_bytes (view b).holdings)
+    (part permission_bytes (view b).permissions)
+    (part rule_bytes (view b).rules)
+    (part duty_bytes (view b).duties)
+
+-- header and parts put one after the other
+pub file_put :
+    (b : Board) {p q r s t u : Writer} → counts_said (view b) ≡ b.counts
+    → Writes (header_bytes b.counts b.clock b.next.0) p q
+    → Writes (part four_bytes (view b).holdings) q r
+    → Writes (part permission_bytes (view b).permissions) r s
+    → Writes (part rule_bytes (view b).rules) s t
+    → Writes (part duty_bytes (view b).duties) t u → Writes (saved b) p u
+unfolding file_of
+file_put b {p} {q} said header first second third last =
+    let start = subst (λ (n : Counts). Writes (header_bytes n b.clock b.next.0) p q) (sym said) header in
+    writes_then start
+    (writes_then first (writes_then second (writes_then third (writes_last last))))
 
 -- ---- of a good board value
 
@@ -95,37 +127,3 @@ module _ (b : Board) (s : Sized b) (g : good b ≡ true) where
   -- and never longer than the longest file
   pub saved_fits : length (saved b) ≤ longest
   saved_fits = let n = good→counts b g in omega (arith, saved_length, n)
-
-  -- how long the parts are
-  pub holdings_length :
-      length (part four_bytes (take b.counts.users b.holdings)) ≡ b.counts.users * holding_size
-  holdings_length =
-      first_length four_bytes holding_size (λ x. refl) b.counts.users b.holdings users
-
-  pub permissions_length :
-      length (part permission_bytes (take b.counts.permissions b.permissions))
-      ≡ b.counts.permissions * permission_size
-  permissions_length =
-      first_length permission_bytes permission_size (λ x. refl) b.counts.permissions b.permissions
-      permissions
-
-  pub rules_length :
-      length (part rule_bytes (take b.counts.rules b.rules)) ≡ b.counts.rules * rule_size
-  rules_length = first_length rule_bytes rule_size (λ x. refl) b.counts.rules b.rules rules
-
-  -- header and parts put one after the other, from the start on
-  pub file_put :
-      {x v w y z out : List ℕ} {i j k m n : ℕ} → Put (header_bytes b.counts b.clock b.next.0) x 0 v i
-      → Put (part four_bytes (take b.counts.users b.holdings)) v i w j
-      → Put (part permission_bytes (take b.counts.permissions b.permissions)) w j y k
-      → Put (part rule_bytes (take b.counts.rules b.rules)) y k z m
-      → Put (part duty_bytes (take b.counts.duties b.duties)) z m out n → Put (saved b) x 0 out n
-  unfolding file_of
-  file_put header first second third last =
-      put_then (said _ counts_said_lem header) (put_then first (put_then second (put_then third (put_last last))))
-    where
-      said :
-          {x y : List ℕ} {n : ℕ} (counts : Counts) → counts ≡ b.counts
-          → Put (header_bytes b.counts b.clock b.next.0) x 0 y n
-          → Put (header_bytes counts b.clock b.next.0) x 0 y n
-      said counts e p = rw e p

@@ -1,12 +1,12 @@
 -- The numbers are put one after the other.
-use Rattle.put.proofs.PutLaws.{put_last, put_then}
+use Rattle.put.proofs.WriteLaws.{writes_last, writes_then}
 use Rattle.save.proofs.header.put_counts.Goals as goal
 
 pub returns : goal.returns
 returns c =
-    put_then c.put_two-users.ensures
-    (put_then c.put_two-roles.ensures
-    (put_then c.put_two-permissions.ensures
-    (put_then c.put_two-rules.ensures
-    (put_then c.put_two-duties.ensures
-    (put_last c.put_two.ensures)))))
+    writes_then c.put.ensures
+    (writes_then c.put-2.ensures
+    (writes_then c.put-3.ensures
+    (writes_then c.put-4.ensures
+    (writes_then c.put-5.ensures
+    (writes_last c.put-6.ensures)))))
