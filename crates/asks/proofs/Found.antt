@@ -1,139 +1,127 @@
--- The place that a search by halving names is the one of `find`: where records rise by a pair of numbers, so
--- do their keys, and a record with the sought pair stands at no other place.
-use mathlib.Core.Path.{◌≡◌, ◌∙◌, ap}
+-- What a search by halving answers is what `find` does: where records rise by a pair of numbers, so do their
+-- keys, and a record with the sought pair stands at no other place.
+use mathlib.Core.Path.{◌≡◌, refl, sym, ◌∙◌, ap}
 use mathlib.Core.Logic.{⊎_elim}
-use mathlib.Core.Bool.{Bool, true, ◌&&◌}
-use Rattle.std.specs.Prelude.{None}
+use mathlib.Core.Bool.{Bool, true, false, ◌&&◌}
 use mathlib.Core.List.{List, [], ◌∷◌}
-use Prim.Native.Nat.{ℕ, zero, suc, ◌-◌, ◌≤◌, ◌<◌}
+use Rattle.std.specs.Prelude.{Option, None, Some, Result, Ok, Err}
+use Rattle.std.specs.declared.cmp.Ordering.{Ordering}
+use Rattle.std.specs.List.Sorted.{IsSearchInRange, IsBinarySearchResult, IsNonDecreasingBy}
+use Rattle.std.specs.Ordering.{nat_cmp, ordering_index}
+use Rattle.std.specs.Result.{result_ok}
+use Rattle.std.proofs.lemmas.Bool.Decides.{nat_tests}
+use Rattle.std.proofs.lemmas.Cmp.{ranked}
+use Rattle.std.proofs.lemmas.List.Sorted.{IsNonDecreasingBy-from_default}
+use Prim.Native.Nat.{ℕ, zero, suc, ◌≤◌, ◌<◌}
 use native.Mathlib.Nat.{le_of_suc-le-suc, not-suc-le-zero}
 use native.Mathlib.Omega.{arith}
 use lib.Dec.{eqb, ltb}
-use lib.ListN.{length, get_or, take, length-take}
-use lib.Seq.{get_or-take, take-length}
-use borrow.Author.Tests.{eqb-true, ltb-true, ltb-false}
-use Rattle.orders.specs.Lists.{Mem, find, Pairwise}
-use Rattle.orders.proofs.Tests.{by_test, and_left, and_right, or_true}
-use Rattle.orders.proofs.Lists.{any_false, mid, Finds, find_case}
+use lib.ListN.{length, get_or}
+use lib.Seq.{take-length}
+use borrow.Author.Tests.{eqb-true, eq-eqb, ltb-true, ltb-false}
+use Rattle.orders.specs.Lists.{Mem, here, there, find, Pairwise}
+use Rattle.orders.proofs.Tests.{by_test, clash, is_false, and_left, and_right, and_both, or_true}
 use Rattle.orders.proofs.Loops.{take_mem, mem_take}
 use Rattle.board.specs.Good.{pair_below}
-use Rattle.asks.specs.Keys.{span, key_of, Keys}
-use Rattle.asks.specs.Halved.{Halved}
+use Rattle.asks.specs.Keys.{span, key_of, Rising}
 
--- ---- keys rise as the pairs do
+-- a place of a list has a member
+at_place : {A : Type 0} (l : List A) (i : ℕ) (z : A) → i < length l → Mem (get_or l i z) l
+at_place l i z h = rw (take-length l) at (take_mem l (length l) i z h h)
 
-key_rises : (a b c d : ℕ) → b < span → pair_below a b c d ≡ true → key_of a b < key_of c d
-key_rises a b c d h e =
-    ⊎_elim
-    (λ t. let k = ltb-true a c t in omega arith)
-    (λ t.
-    let same = eqb-true a c (and_left (eqb a c) (ltb b d) t) in
-    let k = ltb-true b d (and_right (eqb a c) (ltb b d) t) in
-    omega arith)
-    (or_true (ltb a c) (eqb a c && ltb b d) e)
+-- the record at the place, if there is one
+abbrev pub found_at : {A : Type 0} → List A → A → Option ℕ → Option A
+found_at l z None = None
+found_at l z (Some at) = Some (get_or l at z)
 
--- an earlier place and a later one
-earlier_later :
-    {A : Type 0} (R : A → A → Type 0) (l : List A) (z : A) → Pairwise R l → (i j : ℕ) → i < j → j < length l
-    → R (get_or l i z) (get_or l j z)
-earlier_later R [] z h i j p q = absurd (not-suc-le-zero q)
-earlier_later R (x ∷ l) z h i zero p q = absurd (not-suc-le-zero p)
-earlier_later R (x ∷ l) z h zero (suc j) p q =
-    let k = le_of_suc-le-suc q in
-    h.0 (get_or l j z) (rw (take-length l) at (take_mem l (length l) j z k k))
-earlier_later R (x ∷ l) z h (suc i) (suc j) p q =
-    earlier_later R l z h.1 i j (le_of_suc-le-suc p) (le_of_suc-le-suc q)
-
--- ---- records that rise
-
-module _ {A : Type 0} (first second : A → ℕ) where
-  abbrev pub key_by : A → ℕ
-  key_by x = key_of (first x) (second x)
-
-  abbrev pub has_both : ℕ → ℕ → A → Bool
-  has_both a b x = eqb (first x) a && eqb (second x) b
-
+module _ {A : Type 0} (first second : A → ℕ) (a b : ℕ) where
   abbrev Below : A → A → Type 0
   Below x y = pair_below (first x) (second x) (first y) (second y) ≡ true
 
-  -- the whole is the first n of a list, and rises by two numbers of which the second is small
-  pub record Rises (l : List A) (n : ℕ) (whole : List A) : Type 0 where
-    pub fits : n ≤ length l
-    pub is : whole ≡ take n l
-    pub small : (x : A) → Mem x whole → second x < span
-    pub rise : Pairwise Below whole
+  abbrev pub key_by : A → ℕ
+  key_by x = key_of (first x) (second x)
 
--- ---- the place
+  abbrev pub has_both : A → Bool
+  has_both x = eqb (first x) a && eqb (second x) b
 
-module _ {A : Type 0} {first second : A → ℕ} {l whole : List A} {n : ℕ}
-    (known : Rises first second l n whole) (z : A) where
-  keys_rise : (i j : ℕ) → i < j → j < n → key_by first second (get_or l i z) < key_by first second (get_or l j z)
-  keys_rise i j h k =
-      let fits = known.fits in
-      let long : j < length (take n l) = rw length-take (omega arith) in
-      let rise = rw known.is at known.rise in
-      let below = earlier_later (Below first second) (take n l) z rise i j h long in
-      let member = take_mem l n i z (omega arith) (omega arith) in
-      key_rises _ _ _ _
-      (known.small (get_or l i z) (rw known.is member))
-      (rw (get_or-take n l i z (omega arith), get_or-take n l j z k) at below)
+  -- the pair is told by the key
+  both : (x : A) → has_both x ≡ true → key_by x ≡ key_of a b
+  both x e =
+      let one = eqb-true (first x) a (and_left (eqb (first x) a) (eqb (second x) b) e) in
+      let two = eqb-true (second x) b (and_right (eqb (first x) a) (eqb (second x) b) e) in
+      rw (one, two) refl
 
-  module _ {room : ℕ} {keys : List ℕ} (stand : Keys (key_by first second) l z room n keys) (a b : ℕ) {at : ℕ}
-      (halved : Halved keys n (key_of a b) at) where
-    earlier_lower : (j : ℕ) → j < at → key_by first second (get_or l j z) < key_of a b
-    earlier_lower j h =
-        let inside = halved.inside in
-        let lower = rw (stand.are (at - 1) (omega arith)) at (halved.lower (at - 1) (omega arith)) in
-        by_test
-        (ltb j (at - 1))
-        (λ t. let k = keys_rise j (at - 1) (ltb-true j (at - 1) t) (omega arith) in omega arith)
-        (λ f. let same : j ≡ at - 1 = omega (arith, ltb-false j (at - 1) f) in rw same lower)
+  same_key : b < span → (x : A) → second x < span → key_by x ≡ key_of a b → has_both x ≡ true
+  same_key h x k e =
+      let one : first x ≡ a = omega arith in
+      let two : second x ≡ b = omega arith in
+      and_both (eqb (first x) a) (eqb (second x) b) (eq-eqb (first x) a one) (eq-eqb (second x) b two)
 
-    later_higher : (j : ℕ) → at < j → j < n → key_of a b < key_by first second (get_or l j z)
-    later_higher j h k =
-        let higher = rw (stand.are at (omega arith)) at (halved.higher (omega arith)) in
-        let more = keys_rise at j h k in
-        omega arith
+  rises : (x y : A) → second x < span → Below x y → key_by x < key_by y
+  rises x y h e =
+      ⊎_elim
+      (λ t. let k = ltb-true (first x) (first y) t in omega arith)
+      (λ t.
+      let same = eqb-true (first x) (first y) (and_left (eqb (first x) (first y)) (ltb (second x) (second y)) t) in
+      let k = ltb-true (second x) (second y) (and_right (eqb (first x) (first y)) (ltb (second x) (second y)) t) in
+      omega arith)
+      (or_true (ltb (first x) (first y)) (eqb (first x) (first y) && ltb (second x) (second y)) e)
 
-    abbrev sought : A → Bool
-    sought = has_both first second a b
+  -- among records that rise the pair stands at one place alone,
+  find_at :
+      (l : List A) → Rising first second l → (at : ℕ) (z : A) → at < length l → has_both (get_or l at z) ≡ true
+      → find has_both l ≡ Some (get_or l at z)
+  find_at [] known at z h e = absurd (not-suc-le-zero h)
+  find_at (x ∷ l) known zero z h e = rw e refl
+  find_at (x ∷ l) known (suc at) z h e =
+      let y = get_or l at z in
+      let member = at_place l at z (le_of_suc-le-suc h) in
+      let less = rises x y (known.small x (here refl)) (known.rise.0 y member) in
+      let not_yet : has_both x ≡ false = is_false (has_both x) (λ t. let k = both x t in let m = both y e in omega arith) in
+      rw not_yet (find_at l (record { small = λ w m. known.small w (there m); rise = known.rise.1 }) at z (le_of_suc-le-suc h) e)
 
-    only_there : (j : ℕ) → j < n → sought (get_or l j z) ≡ true → j ≡ at
-    only_there j h e =
-        let x = get_or l j z in
-        let one = eqb-true (first x) a (and_left (eqb (first x) a) (eqb (second x) b) e) in
-        let two = eqb-true (second x) b (and_right (eqb (first x) a) (eqb (second x) b) e) in
-        by_test
-        (ltb j at)
-        (λ t. let k = earlier_lower j (ltb-true j at t) in omega arith)
-        (λ f.
-        by_test
-        (ltb at j)
-        (λ t. let k = later_higher j (ltb-true at j t) h in omega arith)
-        (λ g. omega (arith, ltb-false j at f, ltb-false at j g)))
+  -- and where it stands at none, it is not found
+  find_nowhere : (l : List A) → ((x : A) → Mem x l → has_both x ≡ false) → find has_both l ≡ None
+  find_nowhere [] f = refl
+  find_nowhere (x ∷ l) f = rw (f x (here refl)) (find_nowhere l (λ y m. f y (there m)))
 
-    there : (r : Finds sought whole) → (at < n) × (get_or l at z ≡ r.x)
-    there r =
-        let in_whole : Mem r.x whole = rw r.is (mid r.earlier r.later) in
-        let m = mem_take l n z (rw known.is at in_whole) in
-        let same = only_there m.0 m.1 (ap sought m.3 ∙ r.passes) in
-        (rw (← same) m.1, rw (← same) m.3)
+  abbrev compared : A → Ordering
+  compared x = nat_cmp (key_by x) (key_of a b)
 
-    -- the record at the place tells what all of them find,
-    pub find_there :
-        at < n → find (has_both first second a b) whole ≡ find (has_both first second a b) (get_or l at z ∷ [])
-    find_there h =
-        let fits = known.fits in
-        let member : Mem (get_or l at z) whole = rw known.is (take_mem l n at z h (omega arith)) in
-        ⊎_elim
-        (λ r. rw (r.finds, any_false sought r.missed member))
-        (λ r. rw (r.finds, (there r).1, r.passes))
-        (find_case sought whole)
+  rising_keys : (l : List A) → Rising first second l → (i j : ℕ) (z : A) → i < j → j < length l → key_by (get_or l i z) < key_by (get_or l j z)
+  rising_keys [] known i j z h k = absurd (not-suc-le-zero k)
+  rising_keys (x ∷ l) known i zero z h k = absurd (not-suc-le-zero h)
+  rising_keys (x ∷ l) known zero (suc j) z h k =
+      rises x (get_or l j z) (known.small x (here refl)) (known.rise.0 _ (at_place l j z (le_of_suc-le-suc k)))
+  rising_keys (x ∷ l) known (suc i) (suc j) z h k =
+      rising_keys l (record { small = λ w m. known.small w (there m); rise = known.rise.1 }) i j z (le_of_suc-le-suc h) (le_of_suc-le-suc k)
 
-    -- and where no record stands there they find none
-    pub find_nowhere : n ≤ at → find (has_both first second a b) whole ≡ None
-    find_nowhere h =
-        ⊎_elim
-        (λ r. r.finds)
-        (λ r. let k = (there r).0 in absurd (omega arith))
-        (find_case sought whole)
+  comparisons_rise : (l : List A) → Rising first second l → (z : A) → IsNonDecreasingBy (λ x. ordering_index (compared x)) l
+  comparisons_rise l known z =
+      IsNonDecreasingBy-from_default (λ x. ordering_index (compared x)) l z
+      (λ i j le in_range.
+      let keys_rise : key_by (get_or l i z) ≤ key_by (get_or l j z) =
+      grind (arith, rising_keys l known i j z, λ (same : i ≡ j). ap (λ (k : ℕ). key_by (get_or l k z)) same) in
+      grind (arith, nat_tests))
+
+  module _ (l : List A) (known : Rising first second l) (small : b < span) (z : A) where
+    -- what a search by halving for the key answers is what is found
+    pub found :
+        (r : Result ℕ ℕ) → IsSearchInRange r (length l) → IsBinarySearchResult compared l r
+        → {answer : Option ℕ} → answer ≡ result_ok r → find has_both l ≡ found_at l z answer
+    found (Ok at) inside equal e =
+        let same = ranked (key_by (get_or l at z)) (key_of a b) _ (sym (equal z)) in
+        rw e (find_at l known at z inside (same_key small (get_or l at z) (known.small _ (at_place l at z inside)) same))
+    found (Err at) inside parted e = rw e (find_nowhere l missed)
+      where
+        missed : (x : A) → Mem x l → has_both x ≡ false
+        missed x m =
+            is_false
+            (has_both x)
+            (λ t.
+            let (j, h, k, is) = mem_take l (length l) z (rw (← take-length l) at m) in
+            let same = ap key_by is ∙ both x t in
+            by_test
+            (ltb j at)
+            (λ e. let less = ranked (key_by (get_or l j z)) (key_of a b) _ (sym ((parted (comparisons_rise l known z)).0 j z (omega arith) (ltb-true j at e))) in omega arith)
+            (λ e. let more = ranked (key_by (get_or l j z)) (key_of a b) _ (sym ((parted (comparisons_rise l known z)).1 j z (ltb-false j at e) h)) in omega arith))

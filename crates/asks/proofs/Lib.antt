@@ -1,4 +1,2 @@
-pub mod Places
-pub mod Halving
 pub mod Found
 pub mod Asking

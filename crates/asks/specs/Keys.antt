@@ -1,7 +1,7 @@
--- Two numbers in one, and the keys of the first records.
-use Rattle.std.specs.Prelude.{◌≡◌, List, ℕ, ◌+◌, ◌*◌, ◌<◌, length, get_or}
-use Rattle.board.specs.declared.Permission.{Permission}
-use Rattle.board.specs.declared.Rule.{Rule}
+-- Two numbers in one, and records that rise by two numbers.
+use Rattle.std.specs.Prelude.{◌≡◌, true, List, ℕ, ◌+◌, ◌*◌, ◌<◌}
+use Rattle.orders.specs.Lists.{Mem, Pairwise}
+use Rattle.board.specs.Good.{pair_below}
 
 -- every second number is below this
 abbrev pub span : ℕ
@@ -11,14 +11,7 @@ span = 65536
 abbrev pub key_of : ℕ → ℕ → ℕ
 key_of first second = first * span + second
 
-abbrev pub permission_key : Permission → ℕ
-permission_key p = key_of p.action p.object
-
-abbrev pub rule_key : Rule → ℕ
-rule_key r = key_of r.kind r.role
-
--- the keys of the first n records, place by place, in a list with room for all
-pub record Keys {A : Type 0} (key : A → ℕ) (records : List A) (filler : A) (room n : ℕ) (keys : List ℕ)
-    : Type 0 where
-  pub long : length keys ≡ room
-  pub are : (i : ℕ) → i < n → get_or keys i 0 ≡ key (get_or records i filler)
+-- each record is above the one before it, and its second number is small
+pub record Rising {A : Type 0} (first second : A → ℕ) (records : List A) : Type 0 where
+  pub small : (x : A) → Mem x records → second x < span
+  pub rise : Pairwise (λ x y. pair_below (first x) (second x) (first y) (second y) ≡ true) records

@@ -2,180 +2,90 @@
 // of each, since both rise on a good board.
 #![tactic(auto)]
 
-ghost use Rattle.std.specs.Prelude.{◌≡◌, true, [], ◌∷◌, ◌≤◌, min, length};
+ghost use Rattle.std.specs.Prelude.{◌≡◌, true, ◌≤◌, min, length};
 ghost use Rattle.orders.specs.Lists.{find};
-ghost use Rattle.board.specs.Filler.{no_permission, no_rule};
 ghost use Rattle.board.specs.Good.{good};
-ghost use Rattle.board.specs.Limits.{max_permissions, max_rules, max_duties};
+ghost use Rattle.board.specs.Limits.{max_duties};
 ghost use Rattle.board.specs.Permitted.{is_for, governs, by_permission, by_rule};
 ghost use Rattle.board.specs.View.{view};
-ghost use Rattle.asks.specs.Asks.{no_ask, in_one_form, AsksOf};
-ghost use Rattle.asks.specs.Keys.{key_of, permission_key, rule_key, Keys};
-ghost use Rattle.asks.specs.Halved.{Halved};
+ghost use Rattle.asks.specs.Asks.{in_one_form, ask_of, AsksOf};
+ghost use Rattle.asks.specs.Keys.{key_of, Rising};
 
 use board::{Board, Duty, Permission, Rule, What};
 
-// What is asked, in one form: whether there is a permission or rule; the role that the doer is to hold; and
-// of whom the wanted and the barred roles are asked.
+// What is asked where there is a permission or rule, in one form: the role that the doer is to hold; and of
+// whom the wanted and the barred roles are asked.
 #[derive(Clone, Copy)]
 pub struct Ask {
-    pub ruled: bool,
     pub actor: u16,
     pub target: u16,
     pub wanted: u32,
     pub barred: u32,
 }
 
-// ---- keys
-
-// Two numbers in one, the first above the second.
+// Two numbers in one, the first above the second. A search that compares two numbers as a pair takes several
+// times as long, since a branch at each turn cannot be foreseen.
 fn key(first: u16, second: u16) -> u32
     ensures { result ≡ key_of first second }
 {
     first as u32 * 65536 + second as u32
 }
 
-// The keys of the first n permissions.
-fn permission_keys(
-    permissions: [Permission; Board::PERMISSIONS],
-    n: usize,
-) -> [u32; Board::PERMISSIONS]
-    requires { n ≤ max_permissions }
-    ensures { Keys permission_key permissions no_permission max_permissions n result }
+// What the permission for the action on the object asks, if there is one among permissions that rise.
+fn by_permission(permissions: &[Permission], doer: u16, action: u16, object: u16) -> Option<Ask>
+    ensures { Rising (λ p. p.action) (λ p. p.object) permissions.now
+        → result ≡ in_one_form doer (by_permission (find (is_for action object) permissions.now)) }
 {
-    let mut out = [0u32; Board::PERMISSIONS];
-    let mut i: usize = 0;
-    while i < n {
-        let p = permissions[i];
-        out[i] = key(p.action, p.object);
-        i += 1;
-    }
-    out
-}
-
-// The keys of the first n rules.
-fn rule_keys(rules: [Rule; Board::RULES], n: usize) -> [u32; Board::RULES]
-    requires { n ≤ max_rules }
-    ensures { Keys rule_key rules no_rule max_rules n result }
-{
-    let mut out = [0u32; Board::RULES];
-    let mut i: usize = 0;
-    while i < n {
-        let r = rules[i];
-        out[i] = key(r.kind, r.role);
-        i += 1;
-    }
-    out
-}
-
-// The place, among the first n keys, that the key of the two numbers has or would have, where the keys rise.
-// Each turn halves what is left, whichever way it goes, so all searches among n keys take the same number of
-// turns.
-fn key_place(keys: &[u32], n: usize, first: u16, second: u16) -> usize
-    requires { n ≤ length keys.now }
-    ensures { Halved keys.now n (key_of first second) result }
-{
-    let sought = key(first, second);
-    let mut low: usize = 0;
-    let mut left = n;
-    while left > 0 {
-        let half = left - left / 2;
-        let next = low + half;
-        if keys[next - 1] < sought {
-            low = next;
-        }
-        left -= half;
-    }
-    low
-}
-
-// ---- what is asked
-
-// There is no permission or rule.
-fn unruled() -> Ask
-    ensures { result ≡ no_ask }
-{
-    Ask {
-        ruled: false,
-        actor: 0,
-        target: 0,
+    let sought = key(action, object);
+    let at = permissions
+        .binary_search_by_key(&sought, |p| key(p.action, p.object))
+        .ok()?;
+    Some(Ask {
+        actor: permissions[at].role,
+        target: doer,
         wanted: 0,
         barred: 0,
+    })
+}
+
+// What the rule of the kind and for the role asks, if there is one among rules that rise.
+fn by_rule(rules: &[Rule], kind: u16, target: u16, role: u16) -> Option<Ask>
+    ensures { Rising (λ r. r.kind) (λ r. r.role) rules.now
+        → result ≡ in_one_form target (by_rule target (find (governs kind role) rules.now)) }
+{
+    let sought = key(kind, role);
+    let at = rules
+        .binary_search_by_key(&sought, |r| key(r.kind, r.role))
+        .ok()?;
+    let rule = rules[at];
+    Some(Ask {
+        actor: rule.actor,
+        target,
+        wanted: rule.wanted,
+        barred: rule.barred,
+    })
+}
+
+// What is asked for the duty, on a good board.
+fn ask_of(b: &Board, d: &Duty) -> Option<Ask>
+    ensures { good b.now ≡ true → result ≡ ask_of (view b.now) d.now }
+{
+    match d.what {
+        What::Grant { target, role } => by_rule(b.rules(), 0, target, role),
+        What::Revoke { target, role } => by_rule(b.rules(), 1, target, role),
+        What::Use { action, object } => by_permission(b.permissions(), d.doer, action, object),
     }
 }
 
-// What the permission asks, if it is for the action and the object.
-fn by_permission(p: Permission, action: u16, object: u16, doer: u16) -> Ask
-    ensures { result ≡ in_one_form doer (by_permission (find (is_for action object) (p ∷ []))) }
+// What is asked for each of the duties that there is room for, on a good board.
+pub fn asks_of(b: &Board, duties: &[Duty]) -> [Option<Ask>; Board::DUTIES]
+    ensures { good b.now ≡ true
+        → AsksOf (view b.now) duties.now (min (length duties.now) max_duties) result }
 {
-    if (p.action == action) & (p.object == object) {
-        Ask {
-            ruled: true,
-            actor: p.role,
-            target: doer,
-            wanted: 0,
-            barred: 0,
-        }
-    } else {
-        unruled()
+    let mut asks = [None; Board::DUTIES];
+    let count = duties.len().min(Board::DUTIES);
+    for (i, d) in duties[..count].iter().enumerate() {
+        asks[i] = ask_of(b, d);
     }
-}
-
-// What the rule asks, if it is of the kind and for the role.
-fn by_rule(r: Rule, kind: u16, target: u16, role: u16) -> Ask
-    ensures { result ≡ in_one_form target (by_rule target (find (governs kind role) (r ∷ []))) }
-{
-    if (r.kind == kind) & (r.role == role) {
-        Ask {
-            ruled: true,
-            actor: r.actor,
-            target,
-            wanted: r.wanted,
-            barred: r.barred,
-        }
-    } else {
-        unruled()
-    }
-}
-
-// What is asked for each of the first n duties, on a good board.
-pub fn asks_of(b: Board, duties: [Duty; Board::DUTIES], n: usize) -> [Ask; Board::DUTIES]
-    ensures { good b ≡ true → AsksOf (view b) duties (min n max_duties) result }
-{
-    let permissions = board::within(b.counts.permissions as usize, Board::PERMISSIONS);
-    let rules = board::within(b.counts.rules as usize, Board::RULES);
-    let last = board::within(n, Board::DUTIES);
-    let actions = permission_keys(b.permissions, permissions);
-    let kinds = rule_keys(b.rules, rules);
-    let none = unruled();
-    let mut out = [none; Board::DUTIES];
-    let mut i: usize = 0;
-    while i < last {
-        let d = duties[i];
-        let mut ask = none;
-        let what = d.what;
-        match what {
-            What::Grant { target, role } => {
-                let at = key_place(&kinds, rules, 0, role);
-                if at < rules {
-                    ask = by_rule(b.rules[at], 0, target, role);
-                }
-            }
-            What::Revoke { target, role } => {
-                let at = key_place(&kinds, rules, 1, role);
-                if at < rules {
-                    ask = by_rule(b.rules[at], 1, target, role);
-                }
-            }
-            What::Use { action, object } => {
-                let at = key_place(&actions, permissions, action, object);
-                if at < permissions {
-                    ask = by_permission(b.permissions[at], action, object, d.doer);
-                }
-            }
-        }
-        out[i] = ask;
-        i += 1;
-    }
-    out
+    asks
 }

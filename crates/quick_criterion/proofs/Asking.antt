@@ -8,6 +8,7 @@ use mathlib.Core.List.Memᴰ
 use mathlib.Core.List.{
   [],
 }
+use Rattle.std.specs.Prelude.{Option}
 use Prim.Native.Nat.{ℕ, ◌<◌}
 use lib.Dec.{eqb}
 use borrow.Author.Tests.{eqb-true, eq-eqb}
@@ -22,14 +23,14 @@ use Rattle.board.specs.Limits.{max_roles}
 use Rattle.board.specs.Permitted.{Holding, roles_in, each, needs}
 use Rattle.board.proofs.RolesIn.{roles_mem, no_roles}
 use Rattle.asks.specs.declared.Ask.{Ask}
-use Rattle.asks.specs.Asks.{in_one_form}
+use Rattle.asks.specs.Asks.{in_one_form, asked_that}
 use Rattle.quick_criterion.specs.Tests.{needs_held, needs_free}
 
 -- it is asked that this holding is held, or that it is not
-abbrev pub asks_for : ℕ → Ask → Holding × Bool → Bool
-asks_for doer ask n =
+abbrev pub asks_for : ℕ → Option Ask → Holding × Bool → Bool
+asks_for doer asked n =
     let (user, role) = n.0 in
-    ask.ruled && cond n.1 (needs_held doer ask user role) (needs_free ask user role)
+    asked_that (λ ask. cond n.1 (needs_held doer ask user role) (needs_free ask user role)) asked
 
 same_need :
     (user doer q role : ℕ) → eqb user doer && eqb q role ≡ true

@@ -5,6 +5,7 @@
 use mathlib.Core.Path.{◌≡◌, refl, sym, ap, ◌∙◌, fun_ext}
 use mathlib.Core.Bool.{Bool, true, false, not, ◌&&◌}
 use mathlib.Core.List.{List}
+use Rattle.std.specs.Prelude.{Option, None, Some}
 use Prim.Native.Nat.{ℕ, ◌<◌}
 use lib.Dec.{eqb, ltb}
 use borrow.Author.Tests.{eqb-true, eq-eqb, ltb-true, lt-ltb}
@@ -26,9 +27,20 @@ use Rattle.board.specs.Limits.{max_users, max_roles}
 use Rattle.board.specs.Permitted.{Holding, same_holding, asked_for, effect_of}
 use Rattle.board.specs.Windows.{wholly_before}
 use Rattle.asks.specs.declared.Ask.{Ask}
-use Rattle.asks.specs.Asks.{in_one_form}
+use Rattle.asks.specs.Asks.{in_one_form, asked_that}
 use Rattle.quick_criterion.specs.Tests.{needs_opposite, undoes, spoils, mends, makes_wrong}
 use Rattle.quick_criterion.proofs.Asking.{asks_for, asks_needs, needs_asks}
+
+-- ---- what is asked
+
+-- tests that give the same of all that can be asked
+that : {p q : Ask → Bool} → ((ask : Ask) → p ask ≡ q ask) → (asked : Option Ask) → asked_that p asked ≡ asked_that q asked
+that f None = refl
+that f (Some ask) = f ask
+
+asked_none : (asked : Option Ask) → asked_that (λ ask. false) asked ≡ false
+asked_none None = refl
+asked_none (Some ask) = refl
 
 -- ---- what x sets
 
@@ -73,14 +85,16 @@ module _ (permissions : List Permission) (rules : List Rule) where
   -- This sets the holding to the opposite of p: just the need that the holding is p is the opposite of what
   -- it sets, and what undoes it sets the holding to p.
   record SetsWrong (what : What) (h : Holding) (p : Bool) : Type 0 where
-    asked_of : (doer : ℕ) (ask : Ask) → ask.ruled && needs_opposite doer ask what ≡ asks_for doer ask (h, p)
+    asked_of :
+        (doer : ℕ) (asked : Option Ask)
+        → asked_that (λ ask. needs_opposite doer ask what) asked ≡ asks_for doer asked (h, p)
     wrong : sets_to duties (effect_of what) h (not p) ≡ true
     undone : (other : What) → undoes other what ≡ sets_to duties (effect_of other) h p
 
   grant_sets : (target role : ℕ) → role < max_roles → SetsWrong (Grant target role) (target, role) false
   grant_sets target role h =
       record {
-        asked_of = λ doer ask. rw (lt-ltb role width h);
+        asked_of = λ doer. that (λ ask. rw (lt-ltb role width h));
         wrong = same_holding_lem (target, role);
         undone = undone;
       }
@@ -95,7 +109,7 @@ module _ (permissions : List Permission) (rules : List Rule) where
   revoke_sets : (target role : ℕ) → role < max_roles → SetsWrong (Revoke target role) (target, role) true
   revoke_sets target role h =
       record {
-        asked_of = λ doer ask. rw (lt-ltb role width h);
+        asked_of = λ doer. that (λ ask. rw (lt-ltb role width h));
         wrong = same_holding_lem (target, role);
         undone = undone;
       }
@@ -126,7 +140,7 @@ module _ (permissions : List Permission) (rules : List Rule) where
     abbrev asked : Asked
     asked = asked_for permissions rules d.what
 
-    abbrev pub ask : Ask
+    abbrev pub ask : Option Ask
     ask = in_one_form d.doer asked
 
     -- x spoils this need, and no duty between mends it
@@ -179,8 +193,7 @@ module _ (permissions : List Permission) (rules : List Rule) where
         by_what (Use action object) is =
             let r = and_true (spoils d ask x) (not (any (mends x d) pool)) e in
             let a = and_true (not (eqb x.serial.0 d.serial.0)) _ r.0 in
-            let o = and_true (ask.ruled && needs_opposite d.doer ask x.what) _ a.1 in
-            clash (and_true ask.ruled _ o.0).1 (ap (needs_opposite d.doer ask) is)
+            clash (and_true _ (not (wholly_before d x)) a.1).0 (rw is (asked_none ask))
 
     -- where no duty makes a need of d wrong, none of its needs is made wrong
     pub none_made_wrong :

@@ -2,10 +2,12 @@
 -- make a need of it wrong. That it is the criterion of crate orders is proved in proofs/. `pool` is the list
 -- of open duties, `ask` what is asked for d.
 use Rattle.std.specs.Prelude.{Bool, false, not, ◌&&◌, ◌||◌, cond, List, [], ◌∷◌, ℕ, eqb, ltb, get_or}
+use Rattle.std.specs.Prelude.{Option}
 use Rattle.orders.specs.Lists.{any}
 use Rattle.roles.specs.Roles.{width, in_set, with_role, without_role}
 use Rattle.permitted.specs.Meets.{meets_sets}
 use Rattle.asks.specs.declared.Ask.{Ask}
+use Rattle.asks.specs.Asks.{asked_that}
 use Rattle.board.specs.declared.Duty.{Duty}
 use Rattle.board.specs.declared.What.{What}
 use Rattle.board.specs.declared.What.TheVariants.{Grant, Revoke, Use}
@@ -34,10 +36,11 @@ least d user set [] = set
 least d user set (g ∷ l) = least d user (cond (wholly_before g d) (revoked user g.what set) set) l
 
 -- something is asked, and each need of d is right now or is set right by some duty wholly before d
-abbrev pub can_be_met : List ℕ → List Duty → Duty → Ask → Bool
-can_be_met sets pool d ask =
-    ask.ruled
-    && (in_set (most d d.doer (get_or sets d.doer 0) pool) ask.actor
+abbrev pub can_be_met : List ℕ → List Duty → Duty → Option Ask → Bool
+can_be_met sets pool d =
+    asked_that
+    (λ ask.
+    in_set (most d d.doer (get_or sets d.doer 0) pool) ask.actor
     && (meets_sets (most d ask.target (get_or sets ask.target 0) pool) ask.wanted 0
     && meets_sets (least d ask.target (get_or sets ask.target 0) pool) 0 ask.barred))
 
@@ -68,19 +71,19 @@ undoes (Revoke target role) (Use action object) = false
 undoes (Use action object) what = false
 
 -- x is another duty that sets a need of d wrong, and d is not wholly before x
-abbrev pub spoils : Duty → Ask → Duty → Bool
-spoils d ask x =
+abbrev pub spoils : Duty → Option Ask → Duty → Bool
+spoils d asked x =
     not (eqb x.serial.0 d.serial.0)
-    && ((ask.ruled && needs_opposite d.doer ask x.what) && not (wholly_before d x))
+    && (asked_that (λ ask. needs_opposite d.doer ask x.what) asked && not (wholly_before d x))
 
 -- g lies between x and d and sets right what x sets wrong
 abbrev pub mends : Duty → Duty → Duty → Bool
 mends x d g = (wholly_before x g && wholly_before g d) && undoes g.what x.what
 
 -- x spoils a need of d, and no duty of the pool mends it
-abbrev pub makes_wrong : List Duty → Duty → Ask → Duty → Bool
+abbrev pub makes_wrong : List Duty → Duty → Option Ask → Duty → Bool
 makes_wrong pool d ask x = spoils d ask x && not (any (mends x d) pool)
 
 -- d cannot be met, or some duty makes a need of it wrong
-abbrev pub in_trouble : List ℕ → List Duty → Duty → Ask → Bool
+abbrev pub in_trouble : List ℕ → List Duty → Duty → Option Ask → Bool
 in_trouble sets pool d ask = not (can_be_met sets pool d ask) || any (makes_wrong pool d ask) pool

@@ -4,6 +4,7 @@ use mathlib.Core.Path.{◌≡◌, refl, sym, ap, ◌∙◌}
 use mathlib.Core.Logic.{⊎_elim}
 use mathlib.Core.Bool.{Bool, true, false, ◌||◌}
 use mathlib.Core.List.{List, [], ◌∷◌, ◌++◌}
+use Rattle.std.specs.Prelude.{Option, None}
 use Prim.Native.Nat.{ℕ, suc, ◌+◌, ◌≤◌, ◌<◌}
 use native.Mathlib.Numerals.{add-one}
 use native.Mathlib.Omega.{arith}
@@ -15,7 +16,7 @@ use Rattle.orders.specs.Lists.{Mem, keep}
 use Rattle.orders.proofs.Loops.{take_mem}
 use Rattle.orders.proofs.Tests.{by_test, or_true, or_false}
 use Rattle.asks.specs.declared.Ask.{Ask}
-use Rattle.asks.specs.Asks.{no_ask, AskedBy}
+use Rattle.asks.specs.Asks.{AskedBy}
 use Rattle.board.specs.declared.Duty.{Duty}
 use Rattle.board.specs.Filler.{no_duty}
 use Rattle.in_order.specs.InOrder.{place_in_key, by_keys, OfTheFirst}
@@ -25,7 +26,7 @@ use Rattle.trails.specs.Walking.{ask_at, AskedInTurn, PartDone, PlaceOf, Walked}
 
 -- ---- one duty, and one part after another
 
-one_keeps : (ask : Ask) (w : Walk × List ℕ) (y : Duty) → length (do_one ask w y).1 ≡ length w.1
+one_keeps : (ask : Option Ask) (w : Walk × List ℕ) (y : Duty) → length (do_one ask w y).1 ≡ length w.1
 unfolding do_one
 one_keeps ask w y =
     by_test
@@ -34,7 +35,7 @@ one_keeps ask w y =
     (λ e. rw e (length-set w.1 w.0.length y.serial.0))
 
 do_append :
-    (asked : Duty → Ask) (w : Walk × List ℕ) (l m : List Duty)
+    (asked : Duty → Option Ask) (w : Walk × List ℕ) (l m : List Duty)
     → do_all asked w (l ++ m) ≡ do_all asked (do_all asked w l) m
 unfolding do_all
 do_append asked w [] m = refl
@@ -44,14 +45,14 @@ do_append asked w (y ∷ l) m = do_append asked (do_one (asked y) w y) l m
 
 -- the duties below place k are behind the walk
 pub record Passed
-    (order : List Duty) (asks : ℕ → Ask) (passes : Duty → Bool) (start now : Walk × List ℕ) (k : ℕ) : Type 0
+    (order : List Duty) (asks : ℕ → Option Ask) (passes : Duty → Bool) (start now : Walk × List ℕ) (k : ℕ) : Type 0
   where
     pub long : length now.1 ≡ length start.1
     pub same :
-        (asked : Duty → Ask) → AskedInTurn asked order asks
+        (asked : Duty → Option Ask) → AskedInTurn asked order asks
         → do_all asked now (keep passes (drop k order)) ≡ do_all asked start (keep passes order)
 
-module _ {order : List Duty} {asks : ℕ → Ask} {passes : Duty → Bool} {start : Walk × List ℕ} where
+module _ {order : List Duty} {asks : ℕ → Option Ask} {passes : Duty → Bool} {start : Walk × List ℕ} where
   pub begun : Passed order asks passes start start 0
   begun = record { long = refl; same = λ asked are. refl }
 
@@ -89,7 +90,7 @@ module _ {order : List Duty} {asks : ℕ → Ask} {passes : Duty → Bool} {star
 
 -- ---- the trail of the duties at two places
 
-module _ (asked : Duty → Ask) (pool : List Duty) (x d : Duty) (start first second third last : Walk × List ℕ)
+module _ (asked : Duty → Option Ask) (pool : List Duty) (x d : Duty) (start first second third last : Walk × List ℕ)
   where
     abbrev part : Bool → List Duty
     part late = keep (in_trail late x d) pool
@@ -105,14 +106,14 @@ module _ (asked : Duty → Ask) (pool : List Duty) (x d : Duty) (start first sec
         (sym (do_append asked start (part false) (x ∷ (part true ++ (d ∷ [])))
         ∙ do_append asked (do_one (asked x) (do_all asked start (part false)) x) (part true) (d ∷ [])))
 
-module _ (duties : List Duty) (n : ℕ) (asks : List Ask) (asked : Duty → Ask) where
+module _ (duties : List Duty) (n : ℕ) (asks : List (Option Ask)) (asked : Duty → Option Ask) where
   abbrev pool : List Duty
   pool = take n duties
 
   -- the duty with a serial is the one at the place found, and so is what is asked for it
   record Known (y : Duty) (place : ℕ) : Type 0 where
     duty : get_or duties place no_duty ≡ y
-    ask : get_or asks place no_ask ≡ asked y
+    ask : get_or asks place None ≡ asked y
 
   known :
       AskedBy asked pool (length pool) asks
@@ -128,7 +129,7 @@ module _ (duties : List Duty) (n : ℕ) (asks : List Ask) (asked : Duty → Ask)
       }
 
 module _ {duties : List Duty} {n spoiler stuck i j : ℕ} (x_at : PlaceOf duties n spoiler i)
-    (d_at : PlaceOf duties n stuck j) (asks : List Ask) (keys sets before : List ℕ) where
+    (d_at : PlaceOf duties n stuck j) (asks : List (Option Ask)) (keys sets before : List ℕ) where
   -- where one of the two is missing, nothing is said
   pub missing :
       leb n i || leb n j ≡ true → (after : List ℕ) (r : ℕ)
@@ -146,7 +147,7 @@ module _ {duties : List Duty} {n spoiler stuck i j : ℕ} (x_at : PlaceOf duties
 
   -- what is asked for the duties is asked for them in the order of the keys
   asked_in_order :
-      (asked : Duty → Ask) → AskedBy asked (take n duties) (length (take n duties)) asks
+      (asked : Duty → Option Ask) → AskedBy asked (take n duties) (length (take n duties)) asks
       → OfTheFirst duties n keys → AskedInTurn asked order (ask_at asks keys)
   asked_in_order asked are inside k h =
       let many = as_many duties n keys in
@@ -164,9 +165,9 @@ module _ {duties : List Duty} {n spoiler stuck i j : ℕ} (x_at : PlaceOf duties
       let d = get_or duties j no_duty in
       (first second third last : Walk × List ℕ)
       → PartDone order (ask_at asks keys) (in_trail false x d) (set_out sets before) first
-      → second ≡ do_one (get_or asks i no_ask) first x
+      → second ≡ do_one (get_or asks i None) first x
       → PartDone order (ask_at asks keys) (in_trail true x d) second third
-      → last ≡ do_one (get_or asks j no_ask) third d
+      → last ≡ do_one (get_or asks j None) third d
       → Walked duties asks n keys sets spoiler stuck before last.1 last.0.length
   walked f first second third last p q r s =
       λ asked x d are inside unique x_in x-is d_in d_is.

@@ -1,11 +1,11 @@
 -- Doing duties in turn until one is not permitted, and writing their serials. That what is written is the
 -- trail cut after that duty is proved in proofs/Cutting.antt.
-use Rattle.std.specs.Prelude.{◌≡◌, Bool, true, false, not, ◌&&◌, ◌||◌, cond, List, [], ◌∷◌, ◌++◌, map, ℕ, ◌+◌, ◌≤◌, ◌<◌, eqb, leb, length, get_or, set, take}
+use Rattle.std.specs.Prelude.{◌≡◌, Bool, true, false, not, ◌&&◌, ◌||◌, cond, List, [], ◌∷◌, ◌++◌, map, ℕ, ◌+◌, ◌≤◌, ◌<◌, eqb, leb, length, get_or, set, take, Option, None}
 use Rattle.orders.specs.Lists.{Mem, keep}
 use Rattle.roles.specs.Roles.{in_set}
 use Rattle.permitted.specs.Meets.{meets_sets}
 use Rattle.asks.specs.declared.Ask.{Ask}
-use Rattle.asks.specs.Asks.{no_ask, AskedBy}
+use Rattle.asks.specs.Asks.{asked_that, AskedBy}
 use Rattle.board.specs.declared.Duty.{Duty}
 use Rattle.board.specs.Filler.{no_duty}
 use Rattle.board.specs.Good.{what_fits}
@@ -40,15 +40,16 @@ abbrev pub walking : List ℕ → Progress → List ℕ → Walk × List ℕ
 walking sets p list = (record { holdings = sets; length = p.length; stuck = p.stuck }, list)
 
 -- the sets of roles meet what is asked of the doer
-abbrev pub meets_ask : List ℕ → ℕ → Ask → Bool
-meets_ask sets doer ask =
-    ask.ruled
-    && (in_set (get_or sets doer 0) ask.actor
+abbrev pub meets_ask : List ℕ → ℕ → Option Ask → Bool
+meets_ask sets doer =
+    asked_that
+    (λ ask.
+    in_set (get_or sets doer 0) ask.actor
     && meets_sets (get_or sets ask.target 0) ask.wanted ask.barred)
 
 -- A walk that is not stuck, with room in its list, does one duty more: it writes the serial and makes the
 -- change; where the duty is not permitted, it makes no change and is stuck.
-unfoldable pub do_one : Ask → Walk × List ℕ → Duty → Walk × List ℕ
+unfoldable pub do_one : Option Ask → Walk × List ℕ → Duty → Walk × List ℕ
 do_one ask w y =
     let sets = w.0.holdings in
     let at = w.0.length in
@@ -63,22 +64,22 @@ do_one ask w y =
     )
 
 -- these in turn; `asked` says what is asked for each
-unfoldable pub do_all : (Duty → Ask) → Walk × List ℕ → List Duty → Walk × List ℕ
+unfoldable pub do_all : (Duty → Option Ask) → Walk × List ℕ → List Duty → Walk × List ℕ
 do_all asked w [] = w
 do_all asked w (y ∷ l) = do_all asked (do_one (asked y) w y) l
 
 -- what is asked for the duty of the k-th key
-abbrev pub ask_at : List Ask → List ℕ → ℕ → Ask
-ask_at asks keys k = get_or asks (place_in_key (get_or keys k 0)) no_ask
+abbrev pub ask_at : List (Option Ask) → List ℕ → ℕ → Option Ask
+ask_at asks keys k = get_or asks (place_in_key (get_or keys k 0)) None
 
 -- these are what `asked` says is asked for the duties of an order, one after the other
-abbrev pub AskedInTurn : (Duty → Ask) → List Duty → (ℕ → Ask) → Type 0
+abbrev pub AskedInTurn : (Duty → Option Ask) → List Duty → (ℕ → Option Ask) → Type 0
 AskedInTurn asked order asks = (k : ℕ) → k < length order → asks k ≡ asked (get_or order k no_duty)
 
 -- those duties of an order that pass the test were done
-abbrev pub PartDone : List Duty → (ℕ → Ask) → (Duty → Bool) → Walk × List ℕ → Walk × List ℕ → Type 0
+abbrev pub PartDone : List Duty → (ℕ → Option Ask) → (Duty → Bool) → Walk × List ℕ → Walk × List ℕ → Type 0
 PartDone order asks passes before after =
-    (asked : Duty → Ask) → AskedInTurn asked order asks → after ≡ do_all asked before (keep passes order)
+    (asked : Duty → Option Ask) → AskedInTurn asked order asks → after ≡ do_all asked before (keep passes order)
 
 -- a walk from these sets of roles
 abbrev pub set_out : List ℕ → List ℕ → Walk × List ℕ
@@ -101,10 +102,10 @@ serials l = map (λ (d : Duty). d.serial.0) l
 
 -- The trail of x and d was walked, the duties among the first n that have these serials, in the order of the
 -- keys: the list is what the walk left in it, and r the number of serials written.
-abbrev pub Walked : List Duty → List Ask → ℕ → List ℕ → List ℕ → ℕ → ℕ → List ℕ → List ℕ → ℕ → Type 0
+abbrev pub Walked : List Duty → List (Option Ask) → ℕ → List ℕ → List ℕ → ℕ → ℕ → List ℕ → List ℕ → ℕ → Type 0
 Walked duties asks n keys sets spoiler stuck before after r =
     let pool = take n duties in
-    (asked : Duty → Ask) (x d : Duty)
+    (asked : Duty → Option Ask) (x d : Duty)
     → AskedBy asked pool (length pool) asks
     → OfTheFirst duties n keys
     → ((y z : Duty) → Mem y pool → Mem z pool → y.serial.0 ≡ z.serial.0 → y ≡ z)

@@ -31,19 +31,22 @@ fn in_trail(y: Duty, x: Duty, d: Duty, late: bool) -> bool
 }
 
 // Whether the holdings meet what is asked of the doer.
-fn meets_ask(holdings: &[u32; Board::USERS], doer: u16, ask: Ask) -> bool
+fn meets_ask(holdings: &[u32; Board::USERS], doer: u16, ask: Option<Ask>) -> bool
     ensures { result ≡ meets_ask holdings.now doer ask }
 {
+    let Some(ask) = ask else {
+        return false;
+    };
     let own = permitted::held_by(holdings, doer);
     let theirs = permitted::held_by(holdings, ask.target);
-    ask.ruled & (roles::holds(own, ask.actor) & permitted::meets(theirs, ask.wanted, ask.barred))
+    roles::holds(own, ask.actor) & permitted::meets(theirs, ask.wanted, ask.barred)
 }
 
 // Do one duty, if none got stuck so far and the list has room: write its serial, and make its change where
 // it is permitted.
 fn do_one(
     y: Duty,
-    ask: Ask,
+    ask: Option<Ask>,
     walk: Progress,
     holdings: &mut [u32; Board::USERS],
     list: &mut [u32],
@@ -73,7 +76,7 @@ fn do_one(
 // between the two.
 fn do_part(
     duties: [Duty; Board::DUTIES],
-    asks: [Ask; Board::DUTIES],
+    asks: [Option<Ask>; Board::DUTIES],
     keys: &[u64],
     n: usize,
     x: Duty,
@@ -123,7 +126,7 @@ fn place_of(duties: [Duty; Board::DUTIES], n: usize, serial: Serial) -> usize
 // order of start.
 pub fn write_order(
     duties: [Duty; Board::DUTIES],
-    asks: [Ask; Board::DUTIES],
+    asks: [Option<Ask>; Board::DUTIES],
     keys: &[u64],
     n: usize,
     spoiler: Serial,

@@ -2,6 +2,7 @@
 -- whole pool.
 use mathlib.Core.Path.{◌≡◌, refl, ap}
 use mathlib.Core.Bool.{Bool, false, not, ◌&&◌, ◌||◌}
+use Rattle.std.specs.Prelude.{Some}
 use mathlib.Core.List.{List, [], ◌∷◌}
 use Prim.Native.Nat.{ℕ}
 use lib.Dec.{eqb}
@@ -65,10 +66,10 @@ mends_kept x d = any_kept (mends x d) sets_one one
 
 pub wrong_kept :
     (pool : List Duty) (d : Duty) (ask : Ask) (l : List Duty)
-    → any (makes_wrong pool d ask) (keep sets_one l) ≡ any (makes_wrong pool d ask) l
-wrong_kept pool d ask = any_kept (makes_wrong pool d ask) sets_one one
+    → any (makes_wrong pool d (Some ask)) (keep sets_one l) ≡ any (makes_wrong pool d (Some ask)) l
+wrong_kept pool d ask = any_kept (makes_wrong pool d (Some ask)) sets_one one
   where
-    one : (g : Duty) → sets_one g ≡ false → makes_wrong pool d ask g ≡ false
+    one : (g : Duty) → sets_one g ≡ false → makes_wrong pool d (Some ask) g ≡ false
     one g e =
         let free = (idle g e).against_nothing d.doer ask in
-        rw (free, and_false ask.ruled, and_false (not (eqb g.serial.0 d.serial.0)))
+        rw (free, and_false (not (eqb g.serial.0 d.serial.0)))

@@ -4,6 +4,7 @@ use mathlib.Core.Path.{◌≡◌, refl, sym}
 use mathlib.Core.Logic.{inl, inr}
 use mathlib.Core.Bool.{true, false, not}
 use mathlib.Core.List.{List}
+use Rattle.std.specs.Prelude.{Option, None, Some}
 use Prim.Native.Nat.{ℕ, ◌+◌, ◌≤◌, ◌<◌, min}
 use native.Mathlib.Omega.{arith}
 use lib.Dec.{ltb}
@@ -14,29 +15,27 @@ use Rattle.orders.specs.Lists.{Mem, any}
 use Rattle.orders.proofs.Loops.{take_mem}
 use Rattle.orders.proofs.Tests.{by_test, not_true}
 use Rattle.asks.specs.declared.Ask.{Ask}
-use Rattle.asks.specs.Asks.{no_ask}
 use Rattle.board.specs.declared.Duty.{Duty}
 use Rattle.board.specs.Filler.{no_duty}
-use Rattle.troubles.specs.declared.Trouble.TheVariants.{Nothing}
 use Rattle.quick_criterion.specs.Tests.{can_be_met, makes_wrong, in_trouble}
 use Rattle.troubles.specs.Troubles.{Stuck, Troubled}
 
 -- none of the first i duties of the pool is in trouble
-pub record Quiet (sets : List ℕ) (pool : List Duty) (asks : List Ask) (i : ℕ) : Type 0 where
-  pub none : (k : ℕ) → k < i → in_trouble sets pool (get_or pool k no_duty) (get_or asks k no_ask) ≡ false
+pub record Quiet (sets : List ℕ) (pool : List Duty) (asks : List (Option Ask)) (i : ℕ) : Type 0 where
+  pub none : (k : ℕ) → k < i → in_trouble sets pool (get_or pool k no_duty) (get_or asks k None) ≡ false
 
-pub starts : (sets : List ℕ) (pool : List Duty) (asks : List Ask) → Quiet sets pool asks 0
+pub starts : (sets : List ℕ) (pool : List Duty) (asks : List (Option Ask)) → Quiet sets pool asks 0
 starts sets pool asks = record { none = λ k h. absurd (omega arith) }
 
-module _ (sets : List ℕ) (duties : List Duty) (asks : List Ask) (n i : ℕ) where
+module _ (sets : List ℕ) (duties : List Duty) (asks : List (Option Ask)) (n i : ℕ) where
   abbrev pool : List Duty
   pool = take n duties
 
   abbrev d : Duty
   d = get_or duties i no_duty
 
-  abbrev ask : Ask
-  ask = get_or asks i no_ask
+  abbrev ask : Option Ask
+  ask = get_or asks i None
 
   -- the duty at place i
   module _ (h : i < min n (length duties)) where
@@ -47,7 +46,7 @@ module _ (sets : List ℕ) (duties : List Duty) (asks : List Ask) (n i : ℕ) wh
     inside = rw (length-take n duties) h
 
     -- it cannot be met
-    pub alone : can_be_met sets pool d ask ≡ false → Stuck sets pool asks d.serial.0 d.serial.0
+    alone : can_be_met sets pool d ask ≡ false → Stuck sets pool asks d.serial.0 d.serial.0
     alone e =
         record {
           place = i;
@@ -62,15 +61,20 @@ module _ (sets : List ℕ) (duties : List Duty) (asks : List Ask) (n i : ℕ) wh
         }
 
     -- nothing is asked
-    pub unasked : not ask.ruled ≡ true → Stuck sets pool asks d.serial.0 d.serial.0
-    unasked e = alone (rw (not_true ask.ruled e))
+    pub unasked : ask ≡ None → Stuck sets pool asks d.serial.0 d.serial.0
+    unasked e = alone (rw e refl)
+
+    -- something is asked that cannot be met
+    pub unmet : {a : Ask} → ask ≡ Some a → can_be_met sets pool d (Some a) ≡ false
+        → Stuck sets pool asks d.serial.0 d.serial.0
+    unmet is e = alone (rw is e)
 
     -- a duty of the pool spoils it
     pub spoiled :
-        {spoiler : ℕ}
-        → (x : Duty) × Mem x pool × (spoiler ≡ x.serial.0) × (makes_wrong pool d ask x ≡ true)
+        {a : Ask} {spoiler : ℕ} → ask ≡ Some a
+        → (x : Duty) × Mem x pool × (spoiler ≡ x.serial.0) × (makes_wrong pool d (Some a) x ≡ true)
         → Stuck sets pool asks spoiler d.serial.0
-    spoiled found =
+    spoiled is found =
         record {
           place = i;
           inside = inside;
@@ -80,21 +84,21 @@ module _ (sets : List ℕ) (duties : List Duty) (asks : List Ask) (n i : ℕ) wh
           x = found.0;
           open_x = found.1;
           named_x = found.2;
-          why = inr found.3;
+          why = inr (rw is found.3);
         }
 
     -- neither
     pub one_more :
-        Quiet sets pool asks i → can_be_met sets pool d ask ≡ true → any (makes_wrong pool d ask) pool ≡ false
-        → Quiet sets pool asks (i + 1)
-    one_more quiet met none = record { none = one }
+        {a : Ask} → ask ≡ Some a → Quiet sets pool asks i → can_be_met sets pool d (Some a) ≡ true
+        → any (makes_wrong pool d (Some a)) pool ≡ false → Quiet sets pool asks (i + 1)
+    one_more is quiet met none = record { none = one }
       where
-        one : (k : ℕ) → k < i + 1 → in_trouble sets pool (get_or pool k no_duty) (get_or asks k no_ask) ≡ false
+        one : (k : ℕ) → k < i + 1 → in_trouble sets pool (get_or pool k no_duty) (get_or asks k None) ≡ false
         one k l =
             by_test
             (ltb k i)
             (λ t. quiet.none k (ltb-true k i t))
-            (λ f. let same : k ≡ i = omega (arith, ltb-false k i f) in rw (same, same_duty, met, none))
+            (λ f. let same : k ≡ i = omega (arith, ltb-false k i f) in rw (same, same_duty, is, met, none))
 
-  pub over : Quiet sets pool asks i → min n (length duties) ≤ i → Troubled sets pool asks Nothing
+  pub over : Quiet sets pool asks i → min n (length duties) ≤ i → Troubled sets pool asks None
   over quiet h k l = quiet.none k (omega (arith, length-take n duties))

@@ -5,6 +5,7 @@ use mathlib.Core.Path.{◌≡◌, sym, ap, ◌∙◌}
 use mathlib.Core.Logic.{⊎_elim}
 use mathlib.Core.Bool.{Bool, true, false, not}
 use mathlib.Core.List.{List}
+use Rattle.std.specs.Prelude.{Option, None}
 use Prim.Native.Nat.{ℕ, ◌<◌}
 use native.Mathlib.Omega.{arith}
 use lib.ListN.{length, get_or, take, length-take}
@@ -22,8 +23,7 @@ use Rattle.board.specs.Green.{duties_of}
 use Rattle.board.specs.Permitted.{Holding, held_in}
 use Rattle.board.specs.View.{View}
 use Rattle.asks.specs.declared.Ask.{Ask}
-use Rattle.asks.specs.Asks.{no_ask, ask_of, AsksOf}
-use Rattle.troubles.specs.declared.Trouble.TheVariants.{Nothing}
+use Rattle.asks.specs.Asks.{ask_of, AsksOf}
 use Rattle.quick_criterion.specs.Tests.{can_be_met, makes_wrong, in_trouble}
 use Rattle.troubles.specs.Troubles.{Stuck, Troubled}
 use Rattle.quick_criterion.proofs.Alone.{alone_at, can_be_met_alone}
@@ -32,7 +32,7 @@ use Rattle.quick_criterion.proofs.Spoiled.{spoiled_need}
 
 -- what is asked for the first n duties of an array is what is asked for a pool of these
 pub first_asks :
-    (v : View) (duties : List Duty) (n : ℕ) (asks : List Ask) → AsksOf v duties n asks
+    (v : View) (duties : List Duty) (n : ℕ) (asks : List (Option Ask)) → AsksOf v duties n asks
     → AsksOf v (take n duties) (length (take n duties)) asks
 first_asks v duties n asks right i h =
     let k : i < n = omega (arith, length-take n duties) in
@@ -40,7 +40,7 @@ first_asks v duties n asks right i h =
 
 -- the duty that was found is open
 pub stuck_open :
-    {sets : List ℕ} {pool : List Duty} {asks : List Ask} {spoiler stuck : ℕ}
+    {sets : List ℕ} {pool : List Duty} {asks : List (Option Ask)} {spoiler stuck : ℕ}
     (found : Stuck sets pool asks spoiler stuck) → Mem found.d pool
 stuck_open {pool = pool} found =
     let h = found.inside in
@@ -80,10 +80,10 @@ module _ (sets : List ℕ) (v : View) (pool : List Duty) where
 
   -- ---- the answer
 
-  module _ (asks : List Ask) (right : AsksOf v pool (length pool) asks) where
+  module _ (asks : List (Option Ask)) (right : AsksOf v pool (length pool) asks) where
     -- where nothing is found, no duty is in trouble
     pub nothing_found :
-        Troubled sets pool asks Nothing → (d : Duty) → Mem d pool → in_trouble sets pool d (ask_of v d) ≡ false
+        Troubled sets pool asks None → (d : Duty) → Mem d pool → in_trouble sets pool d (ask_of v d) ≡ false
     nothing_found none d m =
         let (i, h, k, is) = mem_take pool (length pool) no_duty (rw (← take-length pool) at m) in
         rw (right i h, is) at (none i h)
@@ -101,5 +101,5 @@ module _ (sets : List ℕ) (v : View) (pool : List Duty) where
         d : Duty
         d = found.d
 
-        same : get_or asks found.place no_ask ≡ ask_of v d
+        same : get_or asks found.place None ≡ ask_of v d
         same = right found.place found.inside ∙ ap (ask_of v) (sym found.is_d)

@@ -4,6 +4,7 @@
 use mathlib.Core.Path.{◌≡◌, refl, sym, ap, ◌∙◌}
 use mathlib.Core.Bool.{Bool, true, false}
 use mathlib.Core.List.{List, [], map}
+use Rattle.std.specs.Prelude.{Some}
 use Prim.Native.Nat.{ℕ, ◌+◌, ◌≤◌, ◌<◌}
 use native.Mathlib.Omega.{arith}
 use lib.ListN.{length, take, get_or, replicate, length-replicate, get_or-replicate}
@@ -72,14 +73,14 @@ table_made long is = record { long = long; empty = λ e. clash refl e; mended = 
 
 -- what is mended by a duty of the pool is mended by one that sets
 wrong_in_lem : (pool : List Duty) (d : Duty) (ask : Ask) (x : Duty)
-    → makes_wrong (setters_in pool) d ask x ≡ makes_wrong pool d ask x
+    → makes_wrong (setters_in pool) d (Some ask) x ≡ makes_wrong pool d (Some ask) x
 wrong_in_lem pool d ask x = rw (mends_kept x d pool)
 
 -- what is right with no duty to mend it is right with any
 right_anyway :
     (pool : List Duty) (d : Duty) (ask : Ask) (x : Duty)
-    → makes_wrong [] d ask x ≡ false → makes_wrong pool d ask x ≡ false
-right_anyway pool d ask x e = rw (sym (and_yes (spoils d ask x)) ∙ e)
+    → makes_wrong [] d (Some ask) x ≡ false → makes_wrong pool d (Some ask) x ≡ false
+right_anyway pool d ask x e = rw (sym (and_yes (spoils d (Some ask) x)) ∙ e)
 
 module _ {pool : List Duty} {setters : List Setter} {users : List ℕ} {m : ℕ}
     (known : Ready pool setters users m)
@@ -136,7 +137,7 @@ pub record Weighed
     pub in_reach :
         reach
         ≡ reach_of d ask (get_or sets d.doer 0) (get_or sets ask.target 0) (take k (setters_in pool))
-    pub none_wrong : any (makes_wrong pool d ask) (take k (setters_in pool)) ≡ false
+    pub none_wrong : any (makes_wrong pool d (Some ask)) (take k (setters_in pool)) ≡ false
 
 module _ (sets : List ℕ) {pool : List Duty} {setters : List Setter} {users : List ℕ} {m : ℕ}
     (known : Ready pool setters users m) (d : Duty) (ask : Ask)
@@ -160,7 +161,7 @@ module _ (sets : List ℕ) {pool : List Duty} {setters : List Setter} {users : L
       inside = rw (many known) h
 
       one_more :
-          {next : Reach} → makes_wrong pool d ask y ≡ false → next ≡ reach_with d ask reach y
+          {next : Reach} → makes_wrong pool d (Some ask) y ≡ false → next ≡ reach_with d ask reach y
           → Weighed sets pool d ask m next (k + 1)
       one_more right given =
           let own = get_or sets d.doer 0 in
@@ -169,7 +170,7 @@ module _ (sets : List ℕ) {pool : List Duty} {setters : List Setter} {users : L
           record {
             some = omega arith;
             in_reach = reach_more d ask own theirs l k no_duty inside so_far.in_reach given;
-            none_wrong = none_next (makes_wrong pool d ask) l k no_duty inside so_far.none_wrong right;
+            none_wrong = none_next (makes_wrong pool d (Some ask)) l k no_duty inside so_far.none_wrong right;
           }
 
       -- nothing is asked of its user
@@ -184,14 +185,14 @@ module _ (sets : List ℕ) {pool : List Duty} {setters : List Setter} {users : L
       module _ {mends : List ℕ} {made : Bool} (table : Table pool m mends made) (z : Setter) (wrong : Bool)
           (weighed :
           (y : Duty) (l : List Duty) → get_or setters k z ≡ setter_of y
-          → get_or mends k 0 ≡ first_mend y last_minute l → wrong ≡ makes_wrong l d ask y)
+          → get_or mends k 0 ≡ first_mend y last_minute l → wrong ≡ makes_wrong l d (Some ask) y)
         where
-          is_wrong : made ≡ true → wrong ≡ makes_wrong pool d ask y
+          is_wrong : made ≡ true → wrong ≡ makes_wrong pool d (Some ask) y
           is_wrong e =
               weighed y (setters_in pool) (setter_at known k h z) (mend_at known k h table e)
               ∙ wrong_in_lem pool d ask y
 
-          is_right : wrong ≡ false → makes_wrong pool d ask y ≡ false
+          is_right : wrong ≡ false → makes_wrong pool d (Some ask) y ≡ false
           is_right r =
               by_test
               made
@@ -210,7 +211,7 @@ module _ (sets : List ℕ) {pool : List Duty} {setters : List Setter} {users : L
           pub spoiler :
               made ≡ true → wrong ≡ true
               → (x : Duty) × Mem x pool × ((get_or setters k z).serial.0 ≡ x.serial.0)
-              × (makes_wrong pool d ask x ≡ true)
+              × (makes_wrong pool d (Some ask) x ≡ true)
           spoiler e w =
               let all = take_all m (setters_in pool) (omega (arith, many known)) in
               let open_y = rw all at (take_mem (setters_in pool) m k no_duty h inside) in (
@@ -225,14 +226,14 @@ module _ (sets : List ℕ) {pool : List Duty} {setters : List Setter} {users : L
       whole : take k (setters_in pool) ≡ setters_in pool
       whole = take_all k (setters_in pool) (omega (arith, many known))
 
-      pub none_spoils : any (makes_wrong pool d ask) pool ≡ false
+      pub none_spoils : any (makes_wrong pool d (Some ask)) pool ≡ false
       none_spoils = sym (wrong_kept pool d ask pool) ∙ (rw whole at done.none_wrong)
 
       pub can_be_met_is :
-          ask.ruled ≡ true → (met : Bool)
-          → met ≡ met_with reach ask → can_be_met sets pool d ask ≡ met
-      can_be_met_is r met e =
+          (met : Bool)
+          → met ≡ met_with reach ask → can_be_met sets pool d (Some ask) ≡ met
+      can_be_met_is met e =
           let own = get_or sets d.doer 0 in
           let theirs = get_or sets ask.target 0 in
           let all = (rw whole at done.in_reach) ∙ reach_kept d ask own theirs pool in
-          rw r (sym (e ∙ ap (λ (s : Reach). met_with s ask) all))
+          (sym (e ∙ ap (λ (s : Reach). met_with s ask) all))

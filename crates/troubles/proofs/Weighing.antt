@@ -3,6 +3,7 @@
 use mathlib.Core.Path.{◌≡◌, refl, sym, ◌∙◌}
 use mathlib.Core.Bool.{Bool, true, false, not, ◌&&◌, ◌||◌, cond}
 use mathlib.Core.List.{List}
+use Rattle.std.specs.Prelude.{Some}
 use Prim.Native.Nat.{ℕ, ◌≤◌, ◌<◌}
 use lib.Bits.{bit_or, bit_xor}
 use lib.Dec.{eqb, ltb}
@@ -42,26 +43,26 @@ regroup false false c d = refl
 
 module _
     {x : Setter} {mend actor : ℕ} (d : Duty) (ask : Ask) (small : d.start ≤ last_minute)
-    (known : (ask.ruled ≡ true) × (actor ≡ with_role 0 ask.actor))
+    (known : actor ≡ with_role 0 ask.actor)
     (y : Duty) (l : List Duty) (is_x : x ≡ setter_of y) (is_mend : mend ≡ first_mend y last_minute l)
   where
     in_numbers_lem :
-        makes_wrong l d ask y
+        makes_wrong l d (Some ask) y
         ≡ (against x d ask actor && not (ltb d.end x.start)) && not (ltb mend d.start)
     in_numbers_lem =
         let w = y.what in
         rw
-        (needs_opposite_is d.doer ask w, mended_by y d l small, is_x, is_mend, known.1, known.0)
+        (needs_opposite_is d.doer ask w, mended_by y d l small, is_x, is_mend, known)
         (regroup
         (not (eqb y.serial.0 d.serial.0))
         (is_against d.doer (with_role 0 ask.actor) ask (user_of w) (grants_of w) (revokes_of w))
         (not (wholly_before d y))
         (not (ltb (first_mend y last_minute l) d.start)))
 
-    pub wholly_later : d.end < x.start → false ≡ makes_wrong l d ask y
+    pub wholly_later : d.end < x.start → false ≡ makes_wrong l d (Some ask) y
     wholly_later h = rw (in_numbers_lem, lt-ltb d.end x.start h, and_false (against x d ask actor))
 
-    pub mended : mend < d.start → false ≡ makes_wrong l d ask y
+    pub mended : mend < d.start → false ≡ makes_wrong l d (Some ask) y
     mended h =
         rw
         (in_numbers_lem, lt-ltb mend d.start h)
@@ -70,13 +71,13 @@ module _
     abbrev set_against : Bool
     set_against = is_against d.doer actor ask x.user x.grants x.revokes
 
-    pub itself : x.serial.0 ≡ d.serial.0 → false ≡ makes_wrong l d ask y
+    pub itself : x.serial.0 ≡ d.serial.0 → false ≡ makes_wrong l d (Some ask) y
     itself e =
         rw (in_numbers_lem, eq-eqb x.serial.0 d.serial.0 e, and_false set_against)
 
     pub left_wrong :
         x.start ≤ d.end → d.start ≤ mend → (x.serial.0 ≡ d.serial.0 → ⊥)
-        → set_against ≡ makes_wrong l d ask y
+        → set_against ≡ makes_wrong l d (Some ask) y
     left_wrong h k n =
         rw (
           in_numbers_lem,
@@ -89,7 +90,7 @@ module _
 -- a duty that sets another user than those of whom something is asked makes nothing wrong
 pub apart_right :
     (d : Duty) (ask : Ask) (y : Duty) (l : List Duty)
-    → concerned d.doer ask.target (user_of y.what) ≡ false → makes_wrong l d ask y ≡ false
+    → concerned d.doer ask.target (user_of y.what) ≡ false → makes_wrong l d (Some ask) y ≡ false
 apart_right d ask y l e =
     let user = user_of y.what in
     let (own, theirs) = or_false (eqb user d.doer) (eqb user ask.target) e in
@@ -97,7 +98,6 @@ apart_right d ask y l e =
       needs_opposite_is d.doer ask y.what,
       own,
       theirs,
-      and_false ask.ruled,
       and_false (not (eqb y.serial.0 d.serial.0)),
     )
 

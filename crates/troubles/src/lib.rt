@@ -18,19 +18,19 @@ use setting::{LAST_MINUTE, mends_of, setters_of, users_of};
 // What makes a board red: the serial of the duty that gets stuck, and of the one that spoils it (the same,
 // where the duty cannot be met at all).
 #[derive(Clone, Copy)]
-pub enum Trouble {
-    Nothing,
-    Found { spoiler: Serial, stuck: Serial },
+pub struct Trouble {
+    pub spoiler: Serial,
+    pub stuck: Serial,
 }
 
 // What makes a board red with these holdings: the first n duties, and what is asked for each. The table of
 // mends is made where a setter first spoils a need, and that duty is judged again; many boards need none.
 pub fn trouble_of(
     duties: [Duty; Board::DUTIES],
-    asks: [Ask; Board::DUTIES],
+    asks: [Option<Ask>; Board::DUTIES],
     n: usize,
     holdings: &[u32; Board::USERS],
-) -> Trouble
+) -> Option<Trouble>
     ensures { Troubled holdings.now (take n duties) asks result }
 {
     let gathered = setters_of(duties, n);
@@ -43,14 +43,13 @@ pub fn trouble_of(
     let mut i: usize = 0;
     while (i < n) & (i < Board::DUTIES) {
         let d = duties[i];
-        let ask = asks[i];
         let stuck = d.serial;
-        if !ask.ruled {
-            return Trouble::Found {
+        let Some(ask) = asks[i] else {
+            return Some(Trouble {
                 spoiler: stuck,
                 stuck,
-            };
-        }
+            });
+        };
         let actor = roles::with_role(0, ask.actor);
         let own = permitted::held_by(holdings, d.doer);
         let theirs = permitted::held_by(holdings, ask.target);
@@ -70,7 +69,7 @@ pub fn trouble_of(
                 if makes_wrong(x, mend, d, ask, actor) {
                     if made {
                         let spoiler = x.serial;
-                        return Trouble::Found { spoiler, stuck };
+                        return Some(Trouble { spoiler, stuck });
                     }
                     break;
                 }
@@ -83,13 +82,13 @@ pub fn trouble_of(
             made = true;
         } else {
             if !can_be_met(reach, ask) {
-                return Trouble::Found {
+                return Some(Trouble {
                     spoiler: stuck,
                     stuck,
-                };
+                });
             }
             i += 1;
         }
     }
-    Trouble::Nothing
+    None
 }

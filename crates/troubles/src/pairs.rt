@@ -36,9 +36,9 @@ fn is_against(x: Setter, doer: u16, ask: Ask, actor: u32) -> bool
 // Whether x makes a need of d wrong, where `mend` is the earliest end of a duty that mends what x sets, and
 // `actor` the role that the doer is to hold, as a set.
 pub(crate) fn makes_wrong(x: Setter, mend: u32, d: Duty, ask: Ask, actor: u32) -> bool
-    requires { (ask.ruled ≡ true) × (actor ≡ with_role 0 ask.actor) }
+    requires { actor ≡ with_role 0 ask.actor }
     ensures { (y : Duty) (l : List Duty) → x ≡ setter_of y → mend ≡ first_mend y last_minute l
-        → result ≡ makes_wrong l d ask y }
+        → result ≡ makes_wrong l d (Some ask) y }
 {
     if d.end < x.start {
         return false;

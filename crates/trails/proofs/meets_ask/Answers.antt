@@ -4,6 +4,7 @@ use Rattle.trails.proofs.meets_ask.Goals as goal
 pub returns : goal.returns
 returns c =
     rw (
+      c.in-Some.is,
       c.meets.ensures,
       c.holds.ensures,
       c.held_by-theirs.ensures,

@@ -3,13 +3,12 @@
 -- is made goes on with the same duty, and there is one such turn at most.
 use mathlib.Core.Path.{◌≡◌, ap, ◌∙◌}
 use mathlib.Core.Bool.{false}
+use Rattle.std.specs.Prelude.{Some}
 use Prim.Native.Nat.{◌<◌, min}
 use native.Mathlib.Omega.{arith}
 use lib.ListN.{length, take, get_or}
 use borrow.Author.Rules.{rules}
 use Rattle.orders.specs.Lists.{any}
-use Rattle.orders.proofs.Tests.{not_false}
-use Rattle.asks.specs.Asks.{no_ask}
 use Rattle.board.specs.Filler.{no_duty}
 use Rattle.board.specs.Limits.{max_duties}
 use Rattle.pool.proofs.Turns.{in_turn, at_end}
@@ -19,7 +18,7 @@ use Rattle.troubles.specs.Reaching.{met_with}
 use Rattle.troubles.proofs.Weighed.{setters_in, ready, table_starts, table_made}
 use Rattle.troubles.proofs.Weighed.{weighing_starts, next_weighed, next_apart}
 use Rattle.troubles.proofs.Weighed.{setter_concerned, spoiler, none_spoils, can_be_met_is}
-use Rattle.troubles.proofs.Searching.{starts, unasked, alone, spoiled, one_more, over}
+use Rattle.troubles.proofs.Searching.{starts, unasked, unmet, spoiled, one_more, over}
 use Rattle.troubles.proofs.trouble_of.Goals as goal
 use Rattle.troubles.proofs.trouble_of.Goals.{In-loop-i, After-can_be_met}
 use Rattle.troubles.proofs.trouble_of.Goals.{then-user-d+else-makes_wrong, else-user-d, else-loop-k-test}
@@ -56,9 +55,9 @@ offset_bounds-asks-i c = let h = within (goal.at.offset_bounds-asks-i c).In-loop
 pub bounds-asks-i : goal.bounds-asks-i
 bounds-asks-i c = let h = within (goal.at.bounds-asks-i c).In-loop-i in search rules
 
-pub returns-then-not-ask : goal.returns-then-not-ask
-returns-then-not-ask c =
-    unasked _ _ _ _ _ (within (goal.at.returns-then-not-ask c).In-loop-i).0 c.if-not-ask.true
+pub returns-in_default : goal.returns-in_default
+returns-in_default c =
+    unasked _ _ _ _ _ (within (goal.at.returns-in_default c).In-loop-i).0 c.in_default.is
 
 pub loop-k-init : goal.loop-k-init
 loop-k-init c =
@@ -88,13 +87,13 @@ reach_with-next-requires c =
     setter_concerned c.loop-i.invariant.1 _ c.loop-k-test.true _ _ _ c.if-user-d.true
 
 pub makes_wrong-requires : goal.makes_wrong-requires
-makes_wrong-requires c = (not_false _ c.if-not-ask.false, c.with_role-actor.ensures)
+makes_wrong-requires c = c.with_role-actor.ensures
 
 pub returns-then-made : goal.returns-then-made
 returns-then-made c =
     let known = c.loop-i.invariant in
     let wrong = c.makes_wrong in
-    spoiled _ _ _ _ _ (within (goal.at.returns-then-made c).In-loop-i).0
+    spoiled _ _ _ _ _ (within (goal.at.returns-then-made c).In-loop-i).0 c.in-Some.is
     (spoiler _ known.1 _ _ c.loop-k.invariant c.loop-k-test.true known.2 _ wrong.result wrong.ensures
     c.if-made.true c.if-makes_wrong.true)
 
@@ -137,9 +136,9 @@ judged :
     (c : After-can_be_met) →
     let pool = take c.args.n c.args.duties in
     let d = get_or c.args.duties c.loop-i.i no_duty in
-    let ask = get_or c.args.asks c.loop-i.i no_ask in
-    (can_be_met c.args.holdings.now pool d ask ≡ c.can_be_met.result)
-    × (any (makes_wrong pool d ask) pool ≡ false)
+    let ask = c.in-Some.ask in
+    (can_be_met c.args.holdings.now pool d (Some ask) ≡ c.can_be_met.result)
+    × (any (makes_wrong pool d (Some ask)) pool ≡ false)
 judged c =
     let known = c.loop-i.invariant.1 in
     let end = c.if-k-m.false in
@@ -147,9 +146,9 @@ judged c =
     let done = c.loop-k.invariant in
     elim c.loop-k-test.branch [
       | else-loop-k-test w ↦
-          let same = ap (λ (r : Reach). met_with r (get_or c.args.asks c.loop-i.i no_ask)) w.reach-is in (
+          let same = ap (λ (r : Reach). met_with r c.in-Some.ask) w.reach-is in (
             can_be_met_is
-                _ known _ _ done end (not_false _ c.if-not-ask.false) met.result (met.ensures ∙ same),
+                _ known _ _ done end met.result (met.ensures ∙ same),
             none_spoils _ known _ _ done end,
           )
       | then-loop-k-test+then-user-d+then-makes_wrong+else-made w ↦
@@ -159,7 +158,7 @@ judged c =
 pub returns-then-not-can_be_met : goal.returns-then-not-can_be_met
 returns-then-not-can_be_met c =
     let p = goal.at.returns-then-not-can_be_met c in
-    alone _ _ _ _ _ (within p.In-loop-i).0 ((judged p.After-can_be_met).0 ∙ c.if-not-can_be_met.true)
+    unmet _ _ _ _ _ (within p.In-loop-i).0 c.in-Some.is ((judged p.After-can_be_met).0 ∙ c.if-not-can_be_met.true)
 
 pub overflow_add-i : goal.overflow_add-i
 overflow_add-i c = let h = within (goal.at.overflow_add-i c).In-loop-i in search rules
@@ -173,7 +172,7 @@ loop-i-preserved c =
     let known = c.loop-i.invariant in
     let found = judged p.After-can_be_met in
     let h = within p.In-loop-i in
-    (omega arith, known.1, known.2, one_more _ _ _ _ _ h.0 known.3 (found.0 ∙ c.if-not-can_be_met.false) found.1)
+    (omega arith, known.1, known.2, one_more _ _ _ _ _ h.0 c.in-Some.is known.3 (found.0 ∙ c.if-not-can_be_met.false) found.1)
 
 pub returns : goal.returns
 returns c =
