@@ -4,6 +4,7 @@
 use mathlib.Core.Path.{◌≡◌, refl, sym, ap, subst, ◌∙◌}
 use mathlib.Core.Bool.{Bool, true}
 use mathlib.Core.List.{List, [], ◌∷◌, ◌++◌}
+use Rattle.std.specs.Prelude.{Option, None}
 use Prim.Native.Nat.{ℕ, ◌≤◌, min}
 use native.Mathlib.Omega.{arith}
 use lib.ListN.{length, take, drop, length-map, length-take}
@@ -36,10 +37,9 @@ use Rattle.in_order.specs.InOrder.{by_keys, InOrder}
 use Rattle.in_order.proofs.Allowed.{rising_order}
 use Rattle.trails.specs.Walking.{serials, InRange, Walked}
 use Rattle.trails.proofs.Cutting.{trail_written}
-use Rattle.troubles.specs.declared.Trouble.TheVariants.{Nothing}
 use Rattle.troubles.specs.Troubles.{Stuck, Troubled}
 use Rattle.quick_criterion.proofs.NotRed.{WithinLimits, good_limits, not_red}
-use Rattle.troubles.proofs.StuckLaws.{first_asks, nothing_found, stuck_by, stuck_open}
+use Rattle.troubles.proofs.StuckLaws.{nothing_found, stuck_by, stuck_open}
 
 module _ (b : Board) (sized : Sized b) (is_good : good b ≡ true) where
   abbrev v : View
@@ -76,18 +76,18 @@ module _ (b : Board) (sized : Sized b) (is_good : good b ≡ true) where
   same_state : s ≡ held_in v.holdings
   same_state = holdings_view b (and_true _ _ (good→filler b is_good)).0
 
-  -- what was looked up for the first n duties of an array is what is asked for these
-  asked : (duties : List Duty) (asks : List Ask) → AsksOf v duties (min n max_duties) asks
-      → AsksOf v (take n duties) (length (take n duties)) asks
-  asked duties asks right = first_asks v duties n asks (λ i h. right i (omega (arith, few)))
+  -- what was looked up is what is asked for the open duties
+  asked : (asks : List (Option Ask)) → AsksOf v pool (min (length pool) max_duties) asks
+      → AsksOf v pool (length pool) asks
+  asked asks right i h = right i (omega (arith, few, length-take n b.duties))
 
   -- ---- nothing found
 
   pub nothing_green :
-      (asks : List Ask) → AsksOf v b.duties (min n max_duties) asks
-      → Troubled b.holdings pool asks Nothing → Green v
+      (asks : List (Option Ask)) → AsksOf v pool (min (length pool) max_duties) asks
+      → Troubled b.holdings pool asks None → Green v
   nothing_green asks right none =
-      let found = nothing_found b.holdings v pool asks (asked b.duties asks right) none in
+      let found = nothing_found b.holdings v pool asks (asked asks right) none in
       rw same_state at ((fact D s pool pool_right).decided.1 (not_red b.holdings v pool limits found))
 
   -- where no duty is open none is in trouble
@@ -95,7 +95,7 @@ module _ (b : Board) (sized : Sized b) (is_good : good b ≡ true) where
   none_green e =
       nothing_green
       []
-      (λ i h. absurd (omega (arith, e, h)))
+      (λ i h. absurd (omega (arith, e, length-take n b.duties, h)))
       (λ i h. absurd (omega (arith, e, length-take n b.duties, h)))
 
   -- ---- a duty that gets stuck
@@ -137,7 +137,7 @@ module _ (b : Board) (sized : Sized b) (is_good : good b ≡ true) where
           (at_cons (λ e. rw e (limits.set d open_d)) (λ m. limits.set y (ordered.only y m)))
 
       order_told :
-          (spoiler stuck : ℕ) → x.serial.0 ≡ spoiler → d.serial.0 ≡ stuck → (asks : List Ask)
+          (spoiler stuck : ℕ) → x.serial.0 ≡ spoiler → d.serial.0 ≡ stuck → (asks : List (Option Ask))
           → AsksOf v pool (length pool) asks → (before after : List ℕ) (r : ℕ) → max_duties ≤ length before
           → Walked b.duties asks n keys b.holdings spoiler stuck before after r
           → OrderTold v before after r
@@ -157,13 +157,13 @@ module _ (b : Board) (sized : Sized b) (is_good : good b ≡ true) where
 
   -- as `judge` finds it
   pub found_red :
-      (asks : List Ask) → AsksOf v b.duties (min n max_duties) asks → (spoiler stuck : ℕ)
+      (asks : List (Option Ask)) → AsksOf v pool (min (length pool) max_duties) asks → (spoiler stuck : ℕ)
       → Stuck b.holdings pool asks spoiler stuck → (keys : List ℕ) → InOrder b.duties n keys
       → (before after : List ℕ) (k : ℕ) → max_duties ≤ length before
       → Walked b.duties asks n keys b.holdings spoiler stuck before after k
       → OrderTold v before after k
   found_red asks right spoiler stuck found keys in_order before after k room walked =
-      let asked_pool = asked b.duties asks right in
+      let asked_pool = asked asks right in
       order_told keys in_order found.x found.d found.open_x (stuck_open found)
       (stuck_by b.holdings v pool asks asked_pool limits found)
       spoiler stuck (sym found.named_x) (sym found.named_d) asks asked_pool before after k room walked

@@ -11,7 +11,6 @@ ghost use Rattle.verdict.specs.Checked.{Checked};
 ghost use Rattle.verdict.specs.Judging.{Judged};
 
 use board::{Board, Refusal};
-use troubles::Trouble;
 
 // Judge a good board: green at once where no duty is open; where it is red a failing order is written to the
 // start of the list, which has room for it.
@@ -25,13 +24,21 @@ fn judge(b: Board, list: &mut [u32]) -> Result<(), Refusal>
     }
     let duties = b.duties;
     let holdings = b.holdings;
-    let asks = asks::asks_of(b, duties, n);
-    let trouble = troubles::trouble_of(duties, asks, n, &holdings);
-    let Trouble::Found { spoiler, stuck } = trouble else {
+    let asks = asks::asks_of(&b, b.duties());
+    let Some(trouble) = troubles::trouble_of(duties, asks, n, &holdings) else {
         return Ok(());
     };
     let keys = in_order::in_order(duties, n);
-    let length = trails::write_order(duties, asks, &keys, n, spoiler, stuck, holdings, list);
+    let length = trails::write_order(
+        duties,
+        asks,
+        &keys,
+        n,
+        trouble.spoiler,
+        trouble.stuck,
+        holdings,
+        list,
+    );
     Err(Refusal::Red { length })
 }
 

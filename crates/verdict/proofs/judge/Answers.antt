@@ -13,18 +13,20 @@ returns-then-n-eq0 c whole room =
 
 pub returns-in_default : goal.returns-in_default
 returns-in_default c whole room =
-    let nothing = rw c.in_default.is at c.trouble_of-trouble.ensures in
-    let asks = c.asks_of-asks in (
-      nothing_green c.args.b (sized c.args.b _ c.well_formed.0) whole asks.result (asks.ensures whole) nothing,
+    let nothing = rw c.in_default.is at c.trouble_of.ensures in
+    let asks = c.asks_of-asks in
+    let asked = rw c.duties.ensures at (asks.ensures whole) in (
+      nothing_green c.args.b (sized c.args.b _ c.well_formed.0) whole asks.result asked nothing,
       refl,
     )
 
 pub returns : goal.returns
 returns c whole room =
-    let found = rw c.in-Found.is at c.trouble_of-trouble.ensures in
+    let found = rw c.in-Some.is at c.trouble_of.ensures in
     let asks = c.asks_of-asks in
+    let asked = rw c.duties.ensures at (asks.ensures whole) in
     let order =
-    found_red c.args.b (sized c.args.b _ c.well_formed.0) whole asks.result (asks.ensures whole)
-    c.in-Found.spoiler.0 c.in-Found.stuck.0 found c.in_order-keys.result c.in_order-keys.ensures _ _
+    found_red c.args.b (sized c.args.b _ c.well_formed.0) whole asks.result asked
+    c.in-Some.trouble.spoiler.0 c.in-Some.trouble.stuck.0 found c.in_order-keys.result c.in_order-keys.ensures _ _
     c.write_order-length.result room c.write_order-length.ensures in
     (c.write_order-length.result, (refl, order))
