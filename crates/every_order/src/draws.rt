@@ -1,34 +1,48 @@
 // Random numbers, the same at each run: each board has rows of eight of them.
-use crate::bytes::low;
+ghost use Rattle.std.specs.Prelude.{◌-◌, ◌≤◌};
 
 // The bits of a number stirred.
-fn stirred(number: u64) -> u64 {
-    let x = number % 4294967296;
-    (x ^ (x / 65536)) % 4294967296 * 73244475 % 4294967296
+fn stirred(number: u32) -> u32 {
+    (number ^ (number >> 16)).wrapping_mul(73244475)
 }
 
-// The random number of a board in a row and a column.
-fn number(board: u32, row: u32, column: u32) -> u32 {
-    let place = 2048 * (board as u64) + 8 * (row as u64) + column as u64;
-    (stirred(stirred(stirred(place))) / 65536 % 65536) as u32
+// The random numbers of a board.
+#[derive(Clone, Copy)]
+pub(crate) struct Draws {
+    pub board: u32,
 }
 
-// What a list has at an index, 0 past its end.
-pub(crate) fn entry(list: &[u32], i: usize) -> u32 {
-    if i < list.len() { list[i] } else { 0 }
-}
+impl Draws {
+    // The random number in a row and a column.
+    fn number(self, row: u32, column: u32) -> u16 {
+        let place = self
+            .board
+            .wrapping_mul(2048)
+            .wrapping_add(row.wrapping_mul(8))
+            .wrapping_add(column);
+        (stirred(stirred(stirred(place))) / 65536) as u16
+    }
 
-// A number brought below a bound.
-pub(crate) fn below(number: u32, bound: u32) -> u32 {
-    if bound == 0 { 0 } else { number % bound }
-}
+    // One of the numbers below a bound, 0 where there is none.
+    pub(crate) fn below(self, row: u32, column: u32, bound: u8) -> u8
+        ensures { result ≤ bound - 1 }
+    {
+        if bound == 0 {
+            0
+        } else {
+            (self.number(row, column) % u16::from(bound)) as u8
+        }
+    }
 
-// One of the numbers below a bound.
-pub(crate) fn draw(board: u32, row: u32, column: u32, bound: u8) -> u8 {
-    low(below(number(board, row, column), bound as u32))
-}
+    // A random number of four bytes, by a column and another far from it.
+    pub(crate) fn four(self, row: u32, column: u32) -> u32 {
+        let high = u32::from(self.number(row, column));
+        let low = u32::from(self.number(row, column % 8 + 1024));
+        65536 * high + low
+    }
 
-// A random number of four bytes, by a column and another far from it.
-pub(crate) fn draw_four(board: u32, row: u32, column: u32) -> u32 {
-    number(board, row, column) % 65536 * 65536 + number(board, row, column % 8 + 1024) % 65536
+    // One of the numbers below a bound of four bytes, 0 where there is none.
+    pub(crate) fn four_below(self, row: u32, column: u32, bound: u32) -> u32 {
+        self.four(row, column).checked_rem(bound).unwrap_or(0)
+    }
 }

@@ -4,6 +4,7 @@
 #![tactic(auto)]
 
 mod bytes;
+mod contents;
 mod damage;
 mod draws;
 mod make;
@@ -12,154 +13,119 @@ mod parts;
 mod reader;
 mod rules;
 mod says;
+mod shortcuts;
 mod tally;
 mod walk;
 
-use board::Board;
-use bytes::lesser;
+use board::{Answer, Board, Serial};
+use contents::Contents;
 use damage::damage;
+use draws::Draws;
 use make::make;
-use order::{is_failing, is_untouched, places_differ};
-use reader::refusal;
-use rules::{BY_PLACE, BY_STARTS, ON_DOER, REVOKED_EARLIER, TOUCHING, TRUE_RULES, UNBARRED, only};
+use order::{is_failing, places_differ};
+use reader::{Fault, check};
 use says::{is_smallest, says};
+use shortcuts::Shortcut;
+use std::alloc::{AllocError, Global};
 use std::io;
-use tally::{
-    Outcome, Tally, counted, line, nothing, print_damaged, print_made, print_refusals,
-    print_shortcuts,
-};
-use walk::{plus, walk};
+use tally::{Outcome, Tally, Verdict};
+use walk::walk;
 
 // How many boards are made, and what stands in the lent list before a call: no serial.
 const BOARDS: u32 = 10000;
 
-const MARK: u32 = 4294967295;
+const MARK: u32 = u32::MAX;
 
-// ---- what the program finds
+// ---- one file
 
-// The number of a file, how many orders were walked, and the set of shortcuts that give another verdict.
+// What the board tells of a file: the answer, the board given back, and the list in the answer's length and
+// beyond it.
 #[derive(Clone, Copy)]
-struct Found {
-    number: u8,
-    orders: u32,
-    misled: u32,
+struct Told<'a> {
+    answer: Answer,
+    board: Board,
+    order: &'a [u32],
+    beyond: &'a [u32],
 }
 
-// The set of a shortcut, if its verdict is not this one.
-fn misled_by(s: &[u8], red: bool, shortcut: u8) -> u32 {
-    let met = walk(s, shortcut);
-    if (met.stuck != 0) != red {
-        only(shortcut as u32)
-    } else {
-        0
-    }
-}
-
-// The shortcuts whose verdict is not this one.
-fn misled(s: &[u8], red: bool) -> u32 {
-    misled_by(s, red, BY_STARTS)
-        | misled_by(s, red, REVOKED_EARLIER)
-        | misled_by(s, red, TOUCHING)
-        | misled_by(s, red, UNBARRED)
-        | misled_by(s, red, ON_DOER)
-}
-
-// Read a file and walk its orders.
-fn find(s: &[u8]) -> Found {
-    let number = refusal(s);
-    if number != 0 {
-        return Found {
-            number,
-            orders: 0,
-            misled: 0,
-        };
-    }
-    let met = walk(s, TRUE_RULES);
-    let red = met.stuck != 0;
-    Found {
-        number: if red { 8 } else { 0 },
-        orders: met.orders,
-        misled: misled(s, red),
-    }
-}
-
-// ---- what the board tells
-
-// The answer's number, its serial, the length of the failing order, and whether the board given back is
-// right.
-#[derive(Clone, Copy)]
-struct Told {
-    number: u8,
-    serial: u32,
-    length: usize,
-    board: bool,
-}
-
-// Whether a board is what a file with this number is to give: what it says, or the smallest.
-fn is_right_board(s: &[u8], number: u8, b: Board) -> bool {
-    if number == 0 {
-        says(s, b)
-    } else {
-        is_smallest(b)
-    }
-}
-
-// Ask the board about a file that is to have this number. The board that is lent to the call is not the
-// smallest, so that a refusal has to make it so.
-fn ask(s: &[u8], number: u8, list: &mut [u32]) -> Told {
+// Ask the board about a file. The board that is lent to the call is not the smallest, so that a refusal has
+// to make it so.
+fn ask<'a>(s: &[u8], list: &'a mut [u32]) -> Told<'a> {
     let lent = Board {
         clock: 1,
         ..Board::smallest()
     };
     let opened = lent_once::open(lent, s, list);
-    let answer = opened.answer;
-    let serial = answer.serial;
-    let b = opened.board;
+    let (order, beyond) = list
+        .split_at_checked(opened.answer.length)
+        .unwrap_or((list, &[]));
     Told {
-        number: answer.number,
-        serial: serial.0,
-        length: answer.length,
-        board: is_right_board(s, number, b),
+        answer: opened.answer,
+        board: opened.board,
+        order,
+        beyond,
     }
 }
 
-// ---- one file
+impl<'a> Told<'a> {
+    // Whether the answer has the number of a verdict, no serial and the length of the list, and every entry
+    // beyond it is still the mark.
+    fn answers(&self, verdict: Verdict) -> bool {
+        let answer = Answer {
+            number: verdict.number(),
+            serial: Serial(0),
+            length: self.order.len(),
+        };
+        (self.answer == answer) & self.beyond.iter().all(|entry| *entry == MARK)
+    }
+}
 
-// Whether the answer is right for a file that is to have this number.
-fn is_right(s: &[u8], number: u8, told: Told, list: &[u32]) -> bool {
-    let length = told.length;
-    let order = if number == 8 {
-        is_failing(s, list, length)
+// Compare what the board tells with a file that is to be refused.
+fn compared_refused(fault: Fault, told: &Told) -> Outcome {
+    let verdict = Verdict::Refused(fault);
+    Outcome {
+        verdict,
+        orders: 0,
+        length: told.order.len(),
+        misled: [false; Shortcut::COUNT],
+        right: told.answers(verdict) & told.order.is_empty() & is_smallest(&told.board),
+    }
+}
+
+// Walk a file that is not to be refused, and compare what the board tells.
+fn compared_walked(s: &[u8], contents: &Contents, told: &Told) -> Outcome {
+    let met = walk(s, contents, None);
+    let is_red = met.stuck != 0;
+    let misled = Shortcut::ALL.map(|shortcut| match shortcut {
+        Shortcut::Places => places_differ(contents, told.order),
+        _ => (walk(s, contents, Some(shortcut)).stuck != 0) != is_red,
+    });
+    let (verdict, right) = if is_red {
+        let is_order = is_failing(s, contents, told.order);
+        (Verdict::Red, is_order & is_smallest(&told.board))
     } else {
-        length == 0
+        (Verdict::Green, told.order.is_empty() & says(s, &told.board))
     };
-    let rest = is_untouched(list, length, MARK);
-    (told.number == number) & order & rest & (told.serial == 0) & told.board
+    Outcome {
+        verdict,
+        orders: met.orders,
+        length: told.order.len(),
+        misled,
+        right: right & told.answers(verdict),
+    }
 }
 
 // Read and walk a file, ask the board about it, and compare.
-fn compared(s: &[u8]) -> Outcome {
-    let found = find(s);
-    let mut list = [MARK; 128];
-    let told = ask(s, found.number, &mut list);
-    let places = if places_differ(s, &list, told.length) {
-        only(BY_PLACE as u32)
-    } else {
-        0
-    };
-    Outcome {
-        number: found.number,
-        orders: found.orders,
-        length: lesser(told.length, 128) as u32,
-        misled: found.misled | places,
-        right: is_right(s, found.number, told, &list),
+fn compared(alloc: Global, s: &[u8]) -> Result<Outcome, AllocError> {
+    let mut list = [MARK; Board::DUTIES];
+    let told = ask(s, &mut list);
+    match check(s) {
+        Err(fault) => Ok(compared_refused(fault, &told)),
+        Ok(()) => {
+            let contents = Contents::read(alloc, s)?;
+            Ok(compared_walked(s, &contents, &told))
+        }
     }
-}
-
-// The same for the file in the first bytes of a buffer, so many.
-fn compared_in(buffer: &[u8], length: u32) -> Outcome {
-    let n = lesser(length as usize, buffer.len());
-    compared(&buffer[0..n])
 }
 
 // ---- all files
@@ -171,53 +137,49 @@ struct Tallies {
     damaged: Tally,
 }
 
-// Name the board, if the answer on one of its files is wrong and few were before.
-fn report(rt: &impl Print, o: Outcome, t: Tally, board: u32) -> io::Result<()> {
-    if !o.right & (t.wrong < 10) {
-        line(rt, "wrong at board", board)
-    } else {
-        Ok(())
+// Compare the file in the first bytes of a buffer, so many, and count it. Name the board, if the answer is
+// wrong and few were before.
+fn count_file(
+    rt: &(impl Print + AllocGlobal),
+    tally: &mut Tally,
+    board: u32,
+    buffer: &[u8],
+    length: u32,
+) -> io::Result<()> {
+    let s = buffer.get(..length as usize).unwrap_or(buffer);
+    let outcome = compared(rt.alloc(), s)?;
+    if !outcome.right & (tally.wrong < 10) {
+        println!(rt; "wrong at board {board}")?;
     }
+    tally.count(&outcome);
+    Ok(())
 }
 
-// The counts with one more board, made from its random numbers, and then damaged.
-fn with_board(rt: &impl Print, t: Tallies, board: u32) -> io::Result<Tallies> {
+// Count one more board, made from its random numbers, and then damaged.
+fn count_board(
+    rt: &(impl Print + AllocGlobal),
+    tallies: &mut Tallies,
+    board: u32,
+) -> io::Result<()> {
+    let draws = Draws { board };
     let mut buffer = [0u8; 640];
-    let length = make(&mut buffer, board);
-    let as_made = compared_in(&buffer, length);
-    let length_then = damage(&mut buffer, board, length);
-    let as_damaged = compared_in(&buffer, length_then);
-    let made = t.made;
-    let damaged = t.damaged;
-    report(rt, as_made, made, board)?;
-    report(rt, as_damaged, damaged, board)?;
-    Ok(Tallies {
-        made: counted(made, as_made),
-        damaged: counted(damaged, as_damaged),
-    })
-}
-
-// All boards in turn.
-fn all(rt: &impl Print) -> io::Result<Tallies> {
-    let made = nothing();
-    let damaged = nothing();
-    let mut tallies = Tallies { made, damaged };
-    let mut board: u32 = 0;
-    while board < BOARDS {
-        board += 1;
-        tallies = with_board(rt, tallies, board)?;
-    }
-    Ok(tallies)
+    let made = make(rt.alloc(), &mut buffer, draws)?;
+    count_file(rt, &mut tallies.made, board, &buffer, made)?;
+    let damaged = damage(&mut buffer, draws, made);
+    count_file(rt, &mut tallies.damaged, board, &buffer, damaged)
 }
 
 fn main(rt: HostRuntime) -> io::Result<()> {
-    let t = all(&rt)?;
-    let made = t.made;
-    let damaged = t.damaged;
-    line(&rt, "boards", BOARDS)?;
-    print_made(&rt, made)?;
-    print_shortcuts(&rt, made)?;
-    print_damaged(&rt, damaged)?;
-    print_refusals(&rt, damaged)?;
-    line(&rt, "disagreements", plus(made.wrong, damaged.wrong))
+    let mut tallies = Tallies {
+        made: Tally::NOTHING,
+        damaged: Tally::NOTHING,
+    };
+    for board in 1..=BOARDS {
+        count_board(&rt, &mut tallies, board)?;
+    }
+    println!(rt; "boards {BOARDS}")?;
+    tallies.made.print_made(&rt)?;
+    tallies.damaged.print_damaged(&rt)?;
+    let wrong = tallies.made.wrong.saturating_add(tallies.damaged.wrong);
+    println!(rt; "disagreements {wrong}")
 }

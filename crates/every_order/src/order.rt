@@ -1,50 +1,31 @@
 // Whether the lent list is as an answer says.
-use crate::draws::entry;
-use crate::rules::{Point, TRUE_RULES, may_come_next, next, permitted_at, place_of, start};
+use crate::contents::Contents;
+use crate::rules::{Orders, Point};
+use board::Serial;
 
-// Whether a duty can stand here in a failing order: it may come next, and is permitted unless it is the last.
-fn can_stand(s: &[u8], point: Point, duty: u8, last: bool) -> bool {
-    may_come_next(s, TRUE_RULES, point.done, duty)
-        & (permitted_at(s, TRUE_RULES, point, duty) != last)
-}
-
-// Whether the first entries of a list, so many, are a failing order: each the serial of an open duty that may
-// come next, and all permitted in turn except the last, which is not.
-pub(crate) fn is_failing(s: &[u8], list: &[u32], count: usize) -> bool {
-    let mut point = start(s);
-    let mut i: usize = 0;
-    while i < count {
-        let duty = place_of(s, entry(list, i));
-        if !can_stand(s, point, duty, count - i == 1) {
+// Whether a list is a failing order: each the serial of an open duty that may come next, and all permitted in
+// turn except the last, which is not.
+pub(crate) fn is_failing(s: &[u8], contents: &Contents, list: &[u32]) -> bool {
+    let orders = Orders { contents, by: None };
+    let mut point = Point::start(s);
+    let mut stuck = false;
+    for serial in list {
+        let Some((place, duty)) = contents.with_serial(Serial(*serial)) else {
+            return false;
+        };
+        if stuck | !orders.may_come_next(&point, place, duty) {
             return false;
         }
-        point = next(s, point, duty);
-        i += 1;
+        stuck = !orders.permit(&point, duty);
+        point = point.after(place, duty);
     }
-    0 < count
+    stuck
 }
 
-// Whether the first entries of a list, so many, would differ if each duty were named by its place, from 1 on.
-pub(crate) fn places_differ(s: &[u8], list: &[u32], count: usize) -> bool {
-    let mut i: usize = 0;
-    while i < count {
-        let serial = entry(list, i);
-        if 1 + place_of(s, serial) as u32 != serial {
-            return true;
-        }
-        i += 1;
-    }
-    false
-}
-
-// Whether every entry of a list from an index on is still the mark.
-pub(crate) fn is_untouched(list: &[u32], from: usize, mark: u32) -> bool {
-    let mut i = from;
-    while i < list.len() {
-        if list[i] != mark {
-            return false;
-        }
-        i += 1;
-    }
-    true
+// Whether a list would differ if each duty were named by its place, from 1 on.
+pub(crate) fn places_differ(contents: &Contents, list: &[u32]) -> bool {
+    list.iter().any(|serial| {
+        let found = contents.with_serial(Serial(*serial));
+        found.is_none_or(|(place, _)| Some(place) != (*serial as usize).checked_sub(1))
+    })
 }

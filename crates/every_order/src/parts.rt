@@ -1,69 +1,92 @@
-// Where the parts of a board file and their records stand, by its counts. Beyond a count stands nothing but
-// zeros: such a record is past the end of every file.
+// Where the parts of a board file and their records stand, by its counts. Beyond a count stands no record,
+// and its bytes are read as zeros.
 ghost use Rattle.std.specs.Prelude.{◌≤◌};
 
 use crate::bytes::two;
 
-const NOWHERE: u32 = 4294967295;
-
-// The offset of the permissions.
-pub(crate) fn permissions_from(s: &[u8]) -> u32
-    ensures { result ≤ 300000 }
-{
-    40 + 4 * two(s, 0, 2)
+// A part of a board file, after the header.
+#[derive(Clone, Copy)]
+pub(crate) enum Part {
+    Holdings,
+    Permissions,
+    Rules,
+    Duties,
 }
 
-// The offset of the rules.
-pub(crate) fn rules_from(s: &[u8]) -> u32
-    ensures { result ≤ 700000 }
-{
-    permissions_from(s) + 6 * two(s, 0, 6)
-}
+// How many bytes the header has.
+pub(crate) const HEADER: u32 = 40;
 
-// The offset of the duties.
-pub(crate) fn duties_from(s: &[u8]) -> u32
-    ensures { result ≤ 1800000 }
-{
-    rules_from(s) + 16 * two(s, 0, 8)
+impl Part {
+    // All of them, in file order.
+    pub(crate) const ALL: [Part; 4] = [
+        Part::Holdings,
+        Part::Permissions,
+        Part::Rules,
+        Part::Duties,
+    ];
+
+    // How many records there are.
+    pub(crate) fn count(self, s: &[u8]) -> u16 {
+        match self {
+            Part::Holdings => two(s, 2),
+            Part::Permissions => two(s, 6),
+            Part::Rules => two(s, 8),
+            Part::Duties => two(s, 10),
+        }
+    }
+
+    // How many bytes so many records have.
+    fn size(self, count: u16) -> u32
+        ensures { result ≤ 1310700 }
+    {
+        let count = u32::from(count);
+        match self {
+            Part::Holdings => 4 * count,
+            Part::Permissions => 6 * count,
+            Part::Rules => 16 * count,
+            Part::Duties => 20 * count,
+        }
+    }
+
+    // How many bytes all its records have.
+    fn whole(self, s: &[u8]) -> u32
+        ensures { result ≤ 1310700 }
+    {
+        self.size(self.count(s))
+    }
+
+    // The offset of the part: after the header and the parts before it.
+    pub(crate) fn start(self, s: &[u8]) -> u32
+        ensures { result ≤ 4000000 }
+    {
+        match self {
+            Part::Holdings => HEADER,
+            Part::Permissions => HEADER + Part::Holdings.whole(s),
+            Part::Rules => HEADER + Part::Holdings.whole(s) + Part::Permissions.whole(s),
+            Part::Duties => {
+                HEADER + Part::Holdings.whole(s) + Part::Permissions.whole(s) + Part::Rules.whole(s)
+            }
+        }
+    }
+
+    // The offset of the record at a place, if it is there.
+    pub(crate) fn at(self, s: &[u8], place: u16) -> Option<u32> {
+        if place < self.count(s) {
+            Some(self.start(s) + self.size(place))
+        } else {
+            None
+        }
+    }
+
+    // The bytes from the record at a place on: none if it is not there.
+    pub(crate) fn record(self, s: &[u8], place: u16) -> &[u8] {
+        self.at(s, place)
+            .and_then(|at| s.get(at as usize..))
+            .unwrap_or(&[])
+    }
 }
 
 // The length of the file.
 pub(crate) fn total(s: &[u8]) -> u32 {
-    duties_from(s) + 20 * two(s, 0, 10)
-}
-
-// The holding at a place.
-pub(crate) fn holding_at(s: &[u8], place: u32) -> u32 {
-    if place < two(s, 0, 2) {
-        40 + 4 * place
-    } else {
-        NOWHERE
-    }
-}
-
-// The permission at a place.
-pub(crate) fn permission_at(s: &[u8], place: u32) -> u32 {
-    if place < two(s, 0, 6) {
-        permissions_from(s) + 6 * place
-    } else {
-        NOWHERE
-    }
-}
-
-// The rule at a place.
-pub(crate) fn rule_at(s: &[u8], place: u32) -> u32 {
-    if place < two(s, 0, 8) {
-        rules_from(s) + 16 * place
-    } else {
-        NOWHERE
-    }
-}
-
-// The duty at a place.
-pub(crate) fn duty_at(s: &[u8], place: u32) -> u32 {
-    if place < two(s, 0, 10) {
-        duties_from(s) + 20 * place
-    } else {
-        NOWHERE
-    }
+    Part::Duties.start(s) + Part::Duties.whole(s)
 }

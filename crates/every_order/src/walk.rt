@@ -1,6 +1,7 @@
 // The walk of every allowed order of a small board, by the true rules or by a shortcut.
-use crate::bytes::two;
-use crate::rules::{Point, may_come_next, next, permitted_at, start};
+use crate::contents::Contents;
+use crate::rules::{Orders, Point};
+use crate::shortcuts::Shortcut;
 
 // What a walk met: how many orders, and how many of them got stuck at a duty that is not permitted.
 #[derive(Clone, Copy)]
@@ -9,62 +10,58 @@ pub(crate) struct Met {
     pub stuck: u32,
 }
 
-// The sum, or the largest number where it does not fit.
-pub(crate) fn plus(a: u32, b: u32) -> u32 {
-    if b <= 4294967295 - a {
-        a + b
-    } else {
-        4294967295
-    }
-}
-
-// Both walks together.
-fn both(a: Met, b: Met) -> Met {
-    Met {
-        orders: plus(a.orders, b.orders),
-        stuck: plus(a.stuck, b.stuck),
-    }
-}
-
-// Walk every allowed order from a point with so many duties left: do each duty that may come next and then
-// walk the rest in the same way. An order that gets stuck is not followed further.
-fn walk_from(s: &[u8], by: u8, point: Point, left: u8) -> Met {
-    if left == 0 {
-        return Met {
-            orders: 1,
-            stuck: 0,
-        };
-    }
-    let mut met = Met {
+impl Met {
+    // No order.
+    const NONE: Met = Met {
         orders: 0,
         stuck: 0,
     };
-    let mut duty: u8 = 0;
-    while duty < 6 {
-        if may_come_next(s, by, point.done, duty) {
-            let mut more = Met {
-                orders: 1,
-                stuck: 1,
-            };
-            if permitted_at(s, by, point, duty) {
-                more = walk_from(s, by, next(s, point, duty), left - 1);
-            }
-            met = both(met, more);
+
+    // One order to its end.
+    const WALKED: Met = Met {
+        orders: 1,
+        stuck: 0,
+    };
+
+    // One order that got stuck.
+    const STUCK: Met = Met {
+        orders: 1,
+        stuck: 1,
+    };
+
+    // Both walks together.
+    fn and(self, other: Met) -> Met {
+        Met {
+            orders: self.orders.saturating_add(other.orders),
+            stuck: self.stuck.saturating_add(other.stuck),
         }
-        duty += 1;
     }
-    met
 }
 
-// Walk every allowed order of a board file with at most 6 duties.
-pub(crate) fn walk(s: &[u8], by: u8) -> Met {
-    let count = two(s, 0, 10);
-    if count < 7 {
-        walk_from(s, by, start(s), count as u8)
-    } else {
-        Met {
-            orders: 0,
-            stuck: 0,
+impl<'a> Orders<'a> {
+    // Walk every allowed order from a point with so many duties left: do each duty that may come next and
+    // then walk the rest in the same way. An order that gets stuck is not followed further.
+    fn walk_from(&self, point: &Point, left: usize) -> Met {
+        if left == 0 {
+            return Met::WALKED;
         }
+        let mut met = Met::NONE;
+        for (place, duty) in self.contents.duties.iter().enumerate() {
+            if self.may_come_next(point, place, duty) {
+                let more = if self.permit(point, duty) {
+                    self.walk_from(&point.after(place, duty), left - 1)
+                } else {
+                    Met::STUCK
+                };
+                met = met.and(more);
+            }
+        }
+        met
     }
+}
+
+// Walk every allowed order of a board file.
+pub(crate) fn walk(s: &[u8], contents: &Contents, by: Option<Shortcut>) -> Met {
+    let orders = Orders { contents, by };
+    orders.walk_from(&Point::start(s), contents.duties.len())
 }

@@ -1,9 +1,0 @@
--- `is_failing` is safe and ends: i counts up to the length of the order.
-use Rattle.std.proofs.Common.{◌-◌, ◌≤◌}
-use Rattle.every_order.proofs.order.is_failing.Given as goal
-
-abbrev pub invariant-loop-i : goal.invariant-loop-i
-invariant-loop-i l = l.i ≤ l.count
-
-abbrev pub decreases-loop-i : goal.decreases-loop-i
-decreases-loop-i l = l.count - l.i

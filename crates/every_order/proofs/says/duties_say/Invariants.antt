@@ -1,9 +1,0 @@
--- `duties_say` is safe and ends: i counts up to 128.
-use Rattle.std.proofs.Common.{◌-◌, ◌≤◌}
-use Rattle.every_order.proofs.says.duties_say.Given as goal
-
-abbrev pub invariant-loop-i : goal.invariant-loop-i
-invariant-loop-i l = l.i ≤ 128
-
-abbrev pub decreases-loop-i : goal.decreases-loop-i
-decreases-loop-i l = 128 - l.i
