@@ -30,14 +30,11 @@ pub fn counts_fit(counts: Counts, next: Serial) -> bool
 // ---- one record
 
 // Whether no bit at or above the role count is set.
+#[tactic(auto, using(crate::proofs::Sets::shifted_out, crate::proofs::Sets::all_below))]
 pub fn set_fits(set: u32, roles: u16) -> bool
     ensures { result ≡ g.set_fits roles set }
 {
-    if roles < roles::WIDTH {
-        set >> roles == 0
-    } else {
-        true
-    }
+    set.checked_shr(roles as u32).unwrap_or(0) == 0
 }
 
 // Whether the action is one of a use, and the object is in range.
@@ -68,8 +65,8 @@ pub fn what_fits(what: What, users: u16, roles: u16) -> bool
     ensures { result ≡ g.what_fits users roles what }
 {
     match what {
-        What::Grant { target, role } => (target < users) & (role < roles),
-        What::Revoke { target, role } => (target < users) & (role < roles),
+        What::Grant { target, role } | What::Revoke { target, role } => (target < users)
+            & (role < roles),
         What::Use { action, object } => use_fits(action, object),
     }
 }
@@ -78,9 +75,8 @@ pub fn what_fits(what: What, users: u16, roles: u16) -> bool
 pub fn duty_fits(d: Duty, users: u16, roles: u16, next: Serial) -> bool
     ensures { result ≡ g.duty_fits users roles next.0 d }
 {
-    let serial = d.serial;
-    let what = d.what;
-    (0 < serial.0) & ((serial.0 < next.0) & ((d.doer < users) & what_fits(what, users, roles)))
+    (Serial(0) < d.serial)
+        & ((d.serial < next) & ((d.doer < users) & what_fits(d.what, users, roles)))
 }
 
 // A pair of numbers as one number: by the first and then by the second, pairs are ordered as these are.
@@ -90,34 +86,27 @@ pub fn joined(a: u16, b: u16) -> u32
     a as u32 * 65536 + (b as u32)
 }
 
-// Whether one pair of numbers is below another, by the first and then by the second.
-fn pair_below(a: u16, b: u16, c: u16, d: u16) -> bool
-    ensures { result ≡ g.pair_below a b c d }
-{
-    joined(a, b) < joined(c, d)
-}
-
-// Whether a permission is below another, by action and then object.
+// Whether a permission is below another, by action and then object. They are compared as one number, since the
+// test of a full board takes a seventh longer where pairs are compared.
+#[tactic(auto, using(crate::proofs::Pairs::joined_below))]
 pub fn permission_below(p: Permission, q: Permission) -> bool
     ensures { result ≡ g.permission_below p q }
 {
-    pair_below(p.action, p.object, q.action, q.object)
+    joined(p.action, p.object) < joined(q.action, q.object)
 }
 
 // Whether a rule is below another, by kind and then role.
 pub fn rule_below(r: Rule, s: Rule) -> bool
     ensures { result ≡ g.rule_below r s }
 {
-    pair_below(r.kind, r.role, s.kind, s.role)
+    (r.kind, r.role) < (s.kind, s.role)
 }
 
 // Whether a duty is below another, by serial.
 pub fn duty_below(d: Duty, e: Duty) -> bool
     ensures { result ≡ g.duty_below d e }
 {
-    let lower = d.serial;
-    let higher = e.serial;
-    lower.0 < higher.0
+    d.serial < e.serial
 }
 
 // ---- what is to be done, told by numbers
@@ -126,21 +115,19 @@ pub fn duty_below(d: Duty, e: Duty) -> bool
 pub fn what_of(action: u16, first: u16, second: u16) -> What
     ensures { result ≡ what_of action first second }
 {
-    if action == 0 {
-        return What::Grant {
+    match action {
+        0 => What::Grant {
             target: first,
             role: second,
-        };
-    }
-    if action == 1 {
-        return What::Revoke {
+        },
+        1 => What::Revoke {
             target: first,
             role: second,
-        };
-    }
-    What::Use {
-        action,
-        object: first,
+        },
+        _ => What::Use {
+            action,
+            object: first,
+        },
     }
 }
 
