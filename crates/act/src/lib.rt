@@ -28,7 +28,7 @@ fn refusal(b: Board, room: usize, q: RequestAct) -> u8
         return Answer::REQUEST;
     }
     let what = records::what_of(q.action, q.first, q.second);
-    if !permitted::permitted(b, q.doer, what) {
+    if !permitted::permitted(&b, q.doer, what) {
         return Answer::NOT_PERMITTED;
     }
     Answer::DONE

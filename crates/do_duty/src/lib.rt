@@ -56,7 +56,7 @@ pub fn do_duty(b: Board, q: RequestDo) -> Outcome
         return outcomes::refused(b, reason);
     }
     let what = d.what;
-    if !permitted::permitted(b, d.doer, what) {
+    if !permitted::permitted(&b, d.doer, what) {
         return outcomes::refused(b, Answer::NOT_PERMITTED);
     }
     let board = after::did(b, q.clock, serial, what);

@@ -1,7 +1,7 @@
 // One act: what it asks, whether that is met, what it changes.
 #![tactic(auto)]
 
-ghost use Rattle.std.specs.Prelude.{◌≡◌, ◌+◌, ◌*◌, ◌<◌, get_or, set, take};
+ghost use Rattle.std.specs.Prelude.{◌≡◌, get_or, set};
 ghost use Rattle.orders.specs.Lists.{find};
 ghost use Rattle.board.specs.View.{view};
 ghost use Rattle.board.specs.Permitted.{is_for, governs, by_permission, by_rule, asked_for};
@@ -13,87 +13,48 @@ use board::{Asked, Board, Permission, Rule, What};
 
 // ---- what is asked
 
-// An action and an object in one number, as they stand in memory, so that both are compared at once.
-fn in_one(action: u16, object: u16) -> u32
-    ensures { (result ≡ action + object * 65536) × (action < 65536) }
+// The permission for the action and the object.
+fn permission_for(permissions: &[Permission], action: u16, object: u16) -> Option<Permission>
+    ensures { result ≡ find (is_for action object) permissions.now }
 {
-    action as u32 + object as u32 * 65536
+    permissions
+        .iter()
+        .copied()
+        .find(|p| (p.action == action) & (p.object == object))
 }
 
-// Whether a permission is for the action and the object.
-fn is_for(p: Permission, action: u16, object: u16) -> bool
-    ensures { result ≡ is_for action object p }
+// What a use of the action on the object asks: the role of its permission.
+fn asked_by_use(permissions: &[Permission], action: u16, object: u16) -> Asked
+    ensures { result ≡ by_permission (find (is_for action object) permissions.now) }
 {
-    in_one(p.action, p.object) == in_one(action, object)
+    permission_for(permissions, action, object).map_or(Asked::Unruled, |p| Asked::Role(p.role))
 }
 
-// What a use of the action on the object asks: the role of its permission, among the first so many.
-fn asked_by_use(
-    permissions: [Permission; Board::PERMISSIONS],
-    count: u16,
-    action: u16,
-    object: u16,
-) -> Asked
-    ensures { result ≡ by_permission (find (is_for action object) (take count permissions)) }
+// The rule of the kind for the role.
+fn rule_for(rules: &[Rule], kind: u16, role: u16) -> Option<Rule>
+    ensures { result ≡ find (governs kind role) rules.now }
 {
-    let n = board::within(count as usize, Board::PERMISSIONS);
-    let mut i: usize = 0;
-    while i < n {
-        let p = permissions[i];
-        if is_for(p, action, object) {
-            return Asked::Role(p.role);
-        }
-        i += 1;
-    }
-    Asked::Unruled
+    rules
+        .iter()
+        .copied()
+        .find(|r| (r.kind == kind) & (r.role == role))
 }
 
-// Whether a rule is of the kind and for the role.
-fn governs(r: Rule, kind: u16, role: u16) -> bool
-    ensures { result ≡ governs kind role r }
+// What a grant (kind 0) or revoke (kind 1) of the role asks: that the target and the doer meet its rule.
+fn asked_by_rule(rules: &[Rule], kind: u16, target: u16, role: u16) -> Asked
+    ensures { result ≡ by_rule target (find (governs kind role) rules.now) }
 {
-    (r.kind == kind) & (r.role == role)
-}
-
-// What a grant (kind 0) or revoke (kind 1) of the role asks: that the target and the doer meet its rule,
-// among the first so many.
-fn asked_by_rule(
-    rules: [Rule; Board::RULES],
-    count: u16,
-    kind: u16,
-    target: u16,
-    role: u16,
-) -> Asked
-    ensures { result ≡ by_rule target (find (governs kind role) (take count rules)) }
-{
-    let n = board::within(count as usize, Board::RULES);
-    let mut i: usize = 0;
-    while i < n {
-        let r = rules[i];
-        if governs(r, kind, role) {
-            return Asked::Meets { target, rule: r };
-        }
-        i += 1;
-    }
-    Asked::Unruled
+    rule_for(rules, kind, role).map_or(Asked::Unruled, |rule| Asked::Meets { target, rule })
 }
 
 // What the board's permissions and rules ask for this to be done.
-pub fn asked_for(b: Board, what: What) -> Asked
-    ensures { result ≡ asked_for (view b).permissions (view b).rules what }
+pub fn asked_for(b: &Board, what: What) -> Asked
+    ensures { result ≡ asked_for (view b.now).permissions (view b.now).rules what }
 {
-    let permissions = b.permissions;
-    let rules = b.rules;
-    let counts = b.counts;
     match what {
-        What::Grant { target, role } => asked_by_rule(rules, counts.rules, 0, target, role),
-        What::Revoke { target, role } => asked_by_rule(rules, counts.rules, 1, target, role),
-        What::Use { action, object } => asked_by_use(
-            permissions,
-            counts.permissions,
-            action,
-            object,
-        ),
+        What::Grant { target, role } => asked_by_rule(b.rules(), 0, target, role),
+        What::Revoke { target, role } => asked_by_rule(b.rules(), 1, target, role),
+        What::Use { action, object } => asked_by_use(b.permissions(), action, object),
     }
 }
 
@@ -103,9 +64,7 @@ pub fn asked_for(b: Board, what: What) -> Asked
 pub fn held_by(holdings: &[u32; Board::USERS], user: u16) -> u32
     ensures { result ≡ get_or holdings.now user 0 }
 {
-    let sets: &[u32] = holdings;
-    let u = user as usize;
-    if u < sets.len() { sets[u] } else { 0 }
+    holdings.get(user as usize).copied().unwrap_or(0)
 }
 
 // Whether the user holds the role.
@@ -138,13 +97,11 @@ pub fn is_met(holdings: &[u32; Board::USERS], doer: u16, asked: Asked) -> bool
 }
 
 // Whether the doer may do this now.
-pub fn permitted(b: Board, doer: u16, what: What) -> bool
-    ensures { result ≡ met (held_in b.holdings)
-        (needs doer (asked_for (view b).permissions (view b).rules what)) }
+pub fn permitted(b: &Board, doer: u16, what: What) -> bool
+    ensures { result ≡ met (held_in b.now.holdings)
+        (needs doer (asked_for (view b.now).permissions (view b.now).rules what)) }
 {
-    let asked = asked_for(b, what);
-    let holdings = b.holdings;
-    is_met(&holdings, doer, asked)
+    is_met(&b.holdings, doer, asked_for(b, what))
 }
 
 // ---- what it changes
@@ -153,10 +110,10 @@ pub fn permitted(b: Board, doer: u16, what: What) -> bool
 fn put_set(holdings: &mut [u32; Board::USERS], user: u16, new: u32)
     ensures { holdings.new ≡ set holdings.old user new }
 {
-    let sets: &mut [u32] = holdings;
-    let u = user as usize;
-    if u < sets.len() {
-        sets[u] = new;
+    // A write through `get_mut` says nothing of the table once the loan is over, so the contract did not prove.
+    let place = user as usize;
+    if place < holdings.len() {
+        holdings[place] = new;
     }
 }
 
@@ -173,9 +130,6 @@ pub fn make_change(holdings: &mut [u32; Board::USERS], what: What)
             let set = held_by(holdings, target);
             put_set(holdings, target, roles::without_role(set, role));
         }
-        What::Use {
-            action: _,
-            object: _,
-        } => {}
+        What::Use { .. } => {}
     }
 }

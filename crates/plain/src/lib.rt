@@ -39,7 +39,7 @@ fn walk_rest(b: Board, left: usize, at: usize, list: &mut [u32]) -> usize
             let serial = d.serial;
             let what = d.what;
             let mut end = at + 1;
-            if permitted::permitted(b, d.doer, what) {
+            if permitted::permitted(&b, d.doer, what) {
                 let rest = after::did(b, b.clock, serial, what);
                 end = walk_rest(rest, left - 1, at + 1, list);
             }

@@ -85,7 +85,7 @@ pub(crate) fn show_rest(
             let serial = d.serial;
             let what = d.what;
             let next = with_next(done, serial);
-            if permitted::permitted(b, d.doer, what) {
+            if permitted::permitted(&b, d.doer, what) {
                 let rest = after::did(b, b.clock, serial, what);
                 shown = show_rest(rt, rest, left - 1, next, shown)?;
             } else {

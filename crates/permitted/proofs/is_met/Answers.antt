@@ -1,18 +1,12 @@
--- `permitted::is_met` meets its contract: what meets a role's need and a rule's needs is a law.
+-- `permitted::is_met` meets its contract: what meets a rule's needs is a law.
 use mathlib.Core.Path.{◌≡◌, sym, ap, ap₂, ◌∙◌}
 use mathlib.Core.Bool.{Bool, ◌&&◌}
 use Prim.Native.Nat.{ℕ}
 use lib.ListN.{get_or}
 use Rattle.board.specs.Permitted.{held_in}
 use Rattle.permitted.specs.Meets.{meets_sets}
-use Rattle.permitted.proofs.RuleNeeds.{role_met, rule_met}
+use Rattle.permitted.proofs.RuleNeeds.{rule_met}
 use Rattle.permitted.proofs.is_met.Goals as goal
-
-pub returns-in-Role : goal.returns-in-Role
-returns-in-Role c =
-    rw
-    c.in-Role.is
-    (c.holds.ensures ∙ sym (role_met (held_in c.args.holdings.now) c.args.doer _))
 
 pub returns-in-Meets : goal.returns-in-Meets
 returns-in-Meets c =
