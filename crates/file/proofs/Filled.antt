@@ -96,33 +96,19 @@ module _ {A : Type 0} (at : ℕ → A) where
 
 -- ---- a loop that fills
 
--- the invariant: the first i of n records stand in their places, with filler in the rest of the room
-pub record Filling {A : Type 0} (at : ℕ → A) (filler : A) (room n i : ℕ) (out : List A) : Type 0 where
-  pub fits : n ≤ room
-  pub so_far : i ≤ n
-  pub is : out ≡ filled at filler room i
+module _ {A : Type 0} (at : ℕ → A) (filler : A) (room : ℕ) where
+  filled_next : (i : ℕ) → i < room → set (filled at filler room i) i (at i) ≡ filled at filler room (i + 1)
+  filled_next i h =
+      let more : room - i ≡ suc (room - suc i) = omega arith in
+      rw (more, add-one, map-append at (below i), append_assoc)
+      (set_at (map at (below i)) filler (replicate (room - suc i) filler) (at i) i (records_length at i))
 
--- one more record, written in its place
-filled_next :
-    {A : Type 0} (at : ℕ → A) (filler : A) (room i : ℕ) → i < room
-    → set (filled at filler room i) i (at i) ≡ filled at filler room (i + 1)
-filled_next at filler room i h =
-    let more : room - i ≡ suc (room - suc i) = omega arith in
-    rw (more, add-one, map-append at (below i), append_assoc)
-    (set_at (map at (below i)) filler (replicate (room - suc i) filler) (at i) i (records_length at i))
+  -- no record yet
+  pub filling_starts : (x : A) → x ≡ filler → replicate room x ≡ filled at filler room 0
+  filling_starts x e = rw (sub-zero room) (ap (replicate room) e)
 
-module _ {A : Type 0} {at : ℕ → A} {filler : A} {room n : ℕ} {out : List A} where
-  pub filling_starts : n ≤ room → out ≡ replicate room filler → Filling at filler room n 0 out
-  filling_starts h e = record { fits = h; so_far = omega arith; is = rw (sub-zero room) e }
-
-  module _ {i : ℕ} (known : Filling at filler room n i out) where
-    pub filling_next : {x : A} → x ≡ at i → i < n → Filling at filler room n (i + 1) (set out i x)
-    filling_next e h =
-        record {
-          fits = known.fits;
-          so_far = omega arith;
-          is = rw (known.is, e) (filled_next at filler room i (omega arith));
-        }
-
-    pub filling_ends : n ≤ i → out ≡ filled at filler room n
-    filling_ends h = let done : i ≡ n = omega arith in rw done at known.is
+  -- one more record, written in its place
+  pub filling_next :
+      (i : ℕ) (out : List A) (x : A) → out ≡ filled at filler room i → x ≡ at i → i < room
+      → set out i x ≡ filled at filler room (i + 1)
+  filling_next i out x e f h = rw (e, f) (filled_next i h)

@@ -3,13 +3,14 @@
 -- fault can be, and what holds of a file without one.
 use mathlib.Core.Path.{◌≡◌, refl, sym, ◌∙◌}
 use mathlib.Core.Logic.{inl, inr}
-use mathlib.Core.Bool.{Bool, true, false, ◌&&◌, ◌||◌, cond}
+use mathlib.Core.Bool.{Bool, true, false, ◌&&◌, ◌||◌}
 use mathlib.Core.List.{List, [], ◌∷◌, ◌++◌, map, map-append}
 use Prim.Native.Nat.{ℕ, zero, suc, ◌+◌, ◌<◌}
 use native.Mathlib.Decide.{dec_lt}
 use native.Mathlib.Numerals.{add-one}
 use native.Mathlib.Omega.{arith}
 use lib.Dec.{eqb}
+use lib.ListN.{get_or}
 use borrow.Author.Tests.{eqb-true, eqb-false}
 use Rattle.orders.proofs.Tests.{by_test}
 use Rattle.board.specs.Answers.{check, Answers}
@@ -18,6 +19,8 @@ use Rattle.board.specs.Numbers as answer
 use Rattle.board.specs.Permitted.{below}
 use Rattle.board.specs.Windows.{window_fits}
 use Rattle.layout.specs.Layout.{counts_of, next_of}
+use Rattle.file.specs.declared.parts.Part.{Part}
+use Rattle.file.specs.declared.parts.Part.TheVariants.{Holdings, Permissions, Rules, Duties}
 use Rattle.file.specs.Parts.{size_of, fault_at}
 use Rattle.file.specs.Reads.{record_checks}
 use Rattle.file.specs.Records.{holding_at, permission_at, rule_at, rule_spare, duty_at}
@@ -105,14 +108,22 @@ module _ (fault : ℕ → ℕ) where
 
 -- ---- the parts
 
-abbrev pub part_count : ℕ
-part_count = 4
+-- the parts in the order of the file, by number
+abbrev pub parts : List Part
+parts = Holdings ∷ Permissions ∷ Rules ∷ Duties ∷ []
+
+abbrev pub part_at : ℕ → Part
+part_at k = get_or parts k Holdings
 
 -- the first fault of a part
-abbrev pub part_fault : List ℕ → ℕ → ℕ
+abbrev pub part_fault : List ℕ → Part → ℕ
 part_fault s part = first_in (fault_at s part) (size_of (counts_of s) part)
 
-pub first_by_parts : (s : List ℕ) → first_fault s ≡ first_in (part_fault s) part_count
+-- the first fault of the parts so far
+abbrev pub fault_before : List ℕ → ℕ → ℕ
+fault_before s k = first_in (λ k. part_fault s (part_at k)) k
+
+pub first_by_parts : (s : List ℕ) → first_fault s ≡ fault_before s 4
 unfolding faults
 first_by_parts s = simp (first_append, first_below, or_later_assoc)
 
@@ -141,31 +152,26 @@ fault_known true false above = refl
 fault_known true true false = refl
 fault_known true true true = refl
 
-cond_keeps : (P : ℕ → Type 0) {a b : ℕ} (t : Bool) → P a → P b → P (cond t a b)
-cond_keeps P true p q = p
-cond_keeps P false p q = q
-
 module _ (s : List ℕ) where
-  record_known : (part i : ℕ) → Known (fault_at s part i)
-  record_known part i =
+  record_known : (part : Part) (i : ℕ) → Known (fault_at s part i)
+  record_known Holdings i = fault_known (g.set_fits (counts_of s).roles (holding_at s i)) true true
+  record_known Permissions i =
+      fault_known (g.permission_fits (counts_of s).roles (permission_at s i)) true
+      (is_above g.permission_below (permission_at s) i)
+  record_known Rules i =
+      fault_known (g.rule_fits (counts_of s).roles (rule_at s i) && eqb (rule_spare s i) 0) true
+      (is_above g.rule_below (rule_at s) i)
+  record_known Duties i =
       let n = counts_of s in
-      cond_keeps Known (eqb part 0)
-      (fault_known (g.set_fits n.roles (holding_at s i)) true true)
-      (cond_keeps Known (eqb part 1)
-      (fault_known (g.permission_fits n.roles (permission_at s i)) true
-      (is_above g.permission_below (permission_at s) i))
-      (cond_keeps Known (eqb part 2)
-      (fault_known (g.rule_fits n.roles (rule_at s i) && eqb (rule_spare s i) 0) true
-      (is_above g.rule_below (rule_at s) i))
-      (fault_known (g.duty_fits n.users n.roles (next_of s) (duty_at s i) && second_fits_at s i)
-      (window_fits (duty_at s i)) (is_above g.duty_below (duty_at s) i))))
+      fault_known (g.duty_fits n.users n.roles (next_of s) (duty_at s i) && second_fits_at s i)
+      (window_fits (duty_at s i)) (is_above g.duty_below (duty_at s) i)
+
+  part_known : (part : Part) → Known (part_fault s part)
+  part_known part = first_keeps (fault_at s part) Known refl (record_known part) (size_of (counts_of s) part)
 
   first_known : Known (first_fault s)
   first_known =
-      rw (first_by_parts s)
-      (first_keeps (part_fault s) Known refl
-      (λ part. first_keeps (fault_at s part) Known refl (record_known part) (size_of (counts_of s) part))
-      part_count)
+      rw (first_by_parts s) (first_keeps (λ k. part_fault s (part_at k)) Known refl (λ k. part_known (part_at k)) 4)
 
   pub fault_answers : Answers (record_checks s) (first_fault s)
   fault_answers = one_answers fault_numbers (first_fault s) first_known
@@ -187,17 +193,18 @@ no_fault s e =
       duties = none 3 (omega arith);
     }
   where
-    none : (part : ℕ) → part < part_count → (i : ℕ) → i < size_of (counts_of s) part → fault_at s part i ≡ 0
-    none part h i k =
-        none_below (fault_at s part) (size_of (counts_of s) part) i
-        (none_below (part_fault s) part_count part (sym (first_by_parts s) ∙ e) h) k
+    none :
+        (k : ℕ) → k < 4 → (i : ℕ) → i < size_of (counts_of s) (part_at k) → fault_at s (part_at k) i ≡ 0
+    none k h i inside =
+        none_below (fault_at s (part_at k)) (size_of (counts_of s) (part_at k)) i
+        (none_below (λ k. part_fault s (part_at k)) 4 k (sym (first_by_parts s) ∙ e) h) inside
 
 pub faultless_first : (s : List ℕ) → NoFault s → first_fault s ≡ 0
-faultless_first s none = first_by_parts s ∙ all_none (part_fault s) part_count part_none
+faultless_first s none =
+    first_by_parts s ∙ all_none (λ k. part_fault s (part_at k)) 4 (λ k h. part_none (part_at k))
   where
-    part_none : (part : ℕ) → part < part_count → part_fault s part ≡ 0
-    part_none zero h = all_none (fault_at s 0) (counts_of s).users none.holdings
-    part_none (suc zero) h = all_none (fault_at s 1) (counts_of s).permissions none.permissions
-    part_none (suc (suc zero)) h = all_none (fault_at s 2) (counts_of s).rules none.rules
-    part_none (suc (suc (suc zero))) h = all_none (fault_at s 3) (counts_of s).duties none.duties
-    part_none (suc (suc (suc (suc part)))) h = absurd (omega arith)
+    part_none : (part : Part) → part_fault s part ≡ 0
+    part_none Holdings = all_none (fault_at s Holdings) (counts_of s).users none.holdings
+    part_none Permissions = all_none (fault_at s Permissions) (counts_of s).permissions none.permissions
+    part_none Rules = all_none (fault_at s Rules) (counts_of s).rules none.rules
+    part_none Duties = all_none (fault_at s Duties) (counts_of s).duties none.duties

@@ -10,7 +10,7 @@ use Rattle.board.specs.Numbers as answer
 use Rattle.board.specs.Refusals.{number_of, number_answered}
 use Rattle.board.proofs.AnswersLaws.{same_answer, never_answered}
 use Rattle.file.specs.Reads.{read_checks, Reads}
-use Rattle.file.proofs.Refused.{refusal_numbered, same_refusal}
+use Rattle.board.proofs.RefusalLaws.{refusal_numbered, same_refusal}
 
 -- a refusal is none of a red board
 not_red : (s : List ℕ) (e : Refusal) → Reads s (Err e) → number_of e ≡ answer.red → ⊥

@@ -4,14 +4,14 @@
 mod bytes;
 mod faults;
 mod fields;
-mod header;
+mod laid;
 mod parts;
 mod reads;
 
 ghost use Rattle.file.specs.Reads.{Reads};
 
 use board::{Board, Refusal};
-use header::{check_header, counts_of};
+use laid::Laid;
 use parts::first_fault;
 use reads::board_of;
 
@@ -19,8 +19,7 @@ use reads::board_of;
 pub fn read(s: &[u8]) -> Result<Board, Refusal>
     ensures { Reads s.now result }
 {
-    check_header(s)?;
-    let counts = counts_of(s);
-    first_fault(s, counts)?;
-    Ok(board_of(s, counts))
+    let file = Laid::check(s)?;
+    first_fault(&file)?;
+    Ok(board_of(&file))
 }

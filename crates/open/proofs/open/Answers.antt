@@ -3,7 +3,7 @@
 -- that show it.
 use mathlib.Core.Path.{refl}
 use native.Mathlib.Omega.{arith}
-use Rattle.file.proofs.Refused.{refusal_numbered}
+use Rattle.board.proofs.RefusalLaws.{refusal_numbered}
 use Rattle.open.proofs.Opening.{not_read, opened_red, opened_green}
 use Rattle.open.proofs.open.Goals as goal
 

@@ -3,11 +3,11 @@
 use mathlib.Core.Path.{◌≡◌}
 use Rattle.board.specs.Refusals.{number_answered}
 use Rattle.file.specs.Parts.{fault_at}
-use Rattle.file.proofs.FirstFault.{first_in, part_fault}
+use Rattle.file.proofs.FirstFault.{first_in, fault_before}
 use Rattle.file.proofs.parts.first_fault.Given as goal
 
 abbrev pub invariant-loop-i : goal.invariant-loop-i
-invariant-loop-i l = (number_answered l.found ≡ 0) × (first_in (fault_at l.s l.part) l.i ≡ 0)
+invariant-loop-i l = (number_answered l.found ≡ 0) × (first_in (fault_at l.file.bytes.now l.part) l.i ≡ 0)
 
 abbrev pub invariant-parts : goal.invariant-parts
-invariant-parts l = (number_answered l.found ≡ 0) × (first_in (part_fault l.s) l.part ≡ 0)
+invariant-parts l = (number_answered l.found ≡ 0) × (fault_before l.file.bytes.now l.part-index ≡ 0)
