@@ -171,7 +171,8 @@ module _ (s : List ℕ) where
 
   first_known : Known (first_fault s)
   first_known =
-      rw (first_by_parts s) (first_keeps (λ k. part_fault s (part_at k)) Known refl (λ k. part_known (part_at k)) 4)
+      rw (first_by_parts s)
+      (first_keeps (λ k. part_fault s (part_at k)) Known refl (λ k. part_known (part_at k)) 4)
 
   pub fault_answers : Answers (record_checks s) (first_fault s)
   fault_answers = one_answers fault_numbers (first_fault s) first_known

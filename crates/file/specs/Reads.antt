@@ -11,7 +11,8 @@ use Rattle.board.specs.Numbers as answer
 use Rattle.board.specs.Permitted.{below}
 use Rattle.board.specs.Refusals.{number_answered}
 use Rattle.layout.specs.Bytes.{two}
-use Rattle.layout.specs.Layout.{version, header_size, counts_of, clock_of, next_of, stated_total, longest, laid_out}
+use Rattle.layout.specs.Layout.{version, header_size, counts_of, clock_of, next_of, stated_total, longest}
+use Rattle.layout.specs.Layout.{laid_out}
 use Rattle.file.specs.Records.{holding_at, permission_at, rule_at, duty_at, fault_numbers, first_fault}
 
 -- the checks of the header

@@ -12,7 +12,8 @@ use board::Refusal;
 pub(crate) fn fault_at<T: Record>(file: &Laid, i: usize) -> Result<(), Refusal>
     requires { i < T.size file.now.counts }
     ensures { let s = file.now.bytes.now in
-        number_answered result ≡ fault_of (T.fits s i) (T.window (T.said s i)) (is_above T.below (T.said s) i) }
+        number_answered result
+        ≡ fault_of (T.fits s i) (T.window (T.said s i)) (is_above T.below (T.said s) i) }
 {
     let record = T::read(file, i);
     if !record.fits(file, i) {
