@@ -10,7 +10,7 @@
 use mathlib.Core.Path.{◌≡◌, refl, sym, ◌∙◌, subst}
 use mathlib.Core.Bool.{Bool, true, false, not}
 use mathlib.Core.List.{List, [], ◌∷◌, ◌++◌}
-use Rattle.std.specs.Prelude.{Some}
+use mathlib.Core.Option.{some}
 use Prim.Native.Nat.{ℕ, zero, suc, ◌+◌}
 use lib.Dec.{T as Holds}
 use seplogic.Ra.Ura.{Ura}
@@ -232,7 +232,7 @@ module _ {M : Type 1} {𝓤 : Ura M} {𝓛 : Logic 𝓤} {K : Type 0}
     -- entry n is the cell of the local i, a struct, of which the field k is read
     pub at_field : K → (n k : ℕ) {i : ℕ} {s : Share} {ν : Sym} {τs : Tys} {b : ℕ} {vs : Vals} {τ : Ty} {d : ℕ}
         → nth 𝓛 n Γ ≡ ‵ (fat s (ty_struct ν τs) b zero (vstruct vs))
-        → spot_of 𝓤 H E i ≡ (ty_struct ν τs, b, zero) → field_at zero τs k ≡ Some (τ, d)
+        → spot_of 𝓤 H E i ≡ (ty_struct ν τs, b, zero) → field_at zero τs k ≡ some (τ, d)
         → Opd K 𝓛 Γ E (copy (place i (field k ∷ []))) (get_v vs k)
     at_field t n k {s = s} {ν} {τs} {b} {vs} {τ} {d} at spot f =
         load t
