@@ -1,19 +1,18 @@
 -- The answer of walk. A board value that breaks a rule gets 19, a short list 9, too many duties 22; else
--- every order is walked. A length of 0 is green, since a failing order has at least the duty that fails.
+-- every order is walked: it is green where no failing order is found.
 use mathlib.Core.Path.{◌≡◌, refl, sym, ap, ◌∙◌}
 use mathlib.Core.Logic.{◌⊎◌, inl, inr}
 use mathlib.Core.Bool.{true, false}
 use Rattle.std.specs.Prelude.{Option, None, Some}
+use Rattle.std.proofs.lemmas.Option.{same_Some, none-some}
 use mathlib.Core.List.{List}
 use Prim.Native.Nat.{ℕ, ◌+◌, ◌<◌, ◌≤◌}
 use native.Mathlib.Omega.{arith}
-use lib.ListN.{length, length-map}
-use lib.Seq.{length-take-le}
+use lib.ListN.{length}
 use Rattle.orders.specs.Orders.{Pool, Failing}
 use Rattle.orders.proofs.Lengths.{failing_length}
 use Rattle.orders.proofs.Plain.{none→green, some→failing}
 use Rattle.orders.proofs.Tests.{clash}
-use Rattle.board.specs.declared.Answer.{Answer}
 use Rattle.board.specs.declared.Board.{Board}
 use Rattle.board.specs.declared.Duty.{Duty}
 use Rattle.board.specs.Answers.{Answers, plain_answer, red_answer}
@@ -24,8 +23,8 @@ use Rattle.board.specs.Limits.{max_duties}
 use Rattle.board.specs.Numbers as answer
 use Rattle.board.specs.Permitted.{held_in}
 use Rattle.board.specs.View.{View, view}
-use Rattle.board.proofs.GoodLaws.{good→counts, good→records}
-use Rattle.board.proofs.GreenLaws.{not_empty, red_not_green}
+use Rattle.board.proofs.GoodLaws.{good→records}
+use Rattle.board.proofs.GreenLaws.{red_not_green}
 use Rattle.board.proofs.PoolLaws.{duties_pool}
 use Rattle.plain.specs.Walks.{most, first_failing_of, serials, walk_checks, Walks}
 use Rattle.plain.specs.Walking.{walked, told}
@@ -57,15 +56,12 @@ module _ (b : Board) (before : List ℕ) where
       v = view b
 
       abbrev n : ℕ
-      n = b.counts.duties
-
-      counted : length v.duties ≡ n
-      counted = length-take-le n b.duties (rw size.duties (good→counts b whole).duties)
+      n = length v.duties
 
       pub many : most < n → Walks b before before (plain_answer answer.many)
       many h =
           refused answer.many (λ e. omega arith)
-          (inr (λ e. clash whole e, inr (λ e. omega arith, inl (rw counted h, refl))))
+          (inr (λ e. clash whole e, inr (λ e. omega arith, inl (h, refl))))
 
       module _ (few : n ≤ most) where
         passed :
@@ -74,7 +70,7 @@ module _ (b : Board) (before : List ℕ) where
         passed number a =
             inr (
               λ e. clash whole e,
-              inr (λ e. omega arith, inr (λ h. let k = rw counted at h in omega arith, a)),
+              inr (λ e. omega arith, inr (λ h. omega arith, a)),
             )
 
         pool_right : Pool (world_of v) v.duties
@@ -91,12 +87,12 @@ module _ (b : Board) (before : List ℕ) where
         fails : (order : List Duty) → first_failing_of v ≡ Some order → FailingOrder v (serials order)
         fails order e = record { list = order; named = refl; failing = is_failing order e }
 
-        module _ (after : List ℕ) (r : ℕ) (is : (r, after) ≡ told 0 before (walked n b)) where
+        module _ (after : List ℕ) (r : Option ℕ) (is : (r, after) ≡ told 0 before (walked n b)) where
           found_is : (r, after) ≡ told 0 before (first_failing_of v)
-          found_is = is ∙ ap (told 0 before) (first_found_lem b size whole n (sym counted))
+          found_is = is ∙ ap (told 0 before) (first_found_lem b size whole n refl)
 
-          pub walked_green : r ≡ 0 → Walks b before after (plain_answer answer.done)
-          walked_green zero_long = go (first_failing_of v) refl found_is
+          pub walked_green : r ≡ None → Walks b before after (plain_answer answer.done)
+          walked_green nothing = go (first_failing_of v) refl found_is
             where
               go : (o : Option (List Duty)) → first_failing_of v ≡ o → (r, after) ≡ told 0 before o
                   → Walks b before after (plain_answer answer.done)
@@ -104,26 +100,26 @@ module _ (b : Board) (before : List ℕ) where
                   let green : Green v =
                   none→green (world_of v) (length v.duties) (held_in v.holdings) v.duties pool_right
                   (omega arith) e in
-                  let kept : after ≡ before = ap (λ (p : ℕ × List ℕ). p.1) same in
+                  let kept : after ≡ before = ap (λ (p : Option ℕ × List ℕ). p.1) same in
                   rw kept
                   (refused answer.done (λ e. omega arith)
                   (passed answer.done (inr (λ red. red_not_green v red green, refl))))
               go (Some order) e same =
-                  let long : r ≡ 0 + length order = ap (λ (p : ℕ × List ℕ). p.0) same in
-                  let named = length-map order (λ (d : Duty). d.serial.0) in
-                  absurd (not_empty v (serials order) (fails order e) (omega arith))
+                  absurd (none-some _ (sym nothing ∙ ap (λ (p : Option ℕ × List ℕ). p.0) same))
 
-          pub walked_red : (r ≡ 0 → ⊥) → Walks b before after (red_answer r)
-          walked_red not-zero = go (first_failing_of v) refl found_is
+          pub walked_red : (n : ℕ) → r ≡ Some n → Walks b before after (red_answer n)
+          walked_red n something = go (first_failing_of v) refl found_is
             where
               go : (o : Option (List Duty)) → first_failing_of v ≡ o → (r, after) ≡ told 0 before o
-                  → Walks b before after (red_answer r)
-              go None e same = absurd (not-zero (ap (λ (p : ℕ × List ℕ). p.0) same))
+                  → Walks b before after (red_answer n)
+              go None e same =
+                  absurd (none-some _ (sym (ap (λ (p : Option ℕ × List ℕ). p.0) same) ∙ something))
               go (Some order) e same =
-                  let long : r ≡ 0 + length order = ap (λ (p : ℕ × List ℕ). p.0) same in
+                  let long : n ≡ 0 + length order =
+                  same_Some _ _ (sym something ∙ ap (λ (p : Option ℕ × List ℕ). p.0) same) in
                   let no_longer =
                   failing_length (world_of v) v.duties pool_right _ order (is_failing order e) in
-                  let fits : length order ≤ length before = omega (arith, counted) in
+                  let fits : length order ≤ length before = omega arith in
                   record {
                     number = passed answer.red (inl ((serials order, fails order e), refl));
                     serial = refl;
@@ -132,18 +128,7 @@ module _ (b : Board) (before : List ℕ) where
                           order = order;
                           found = e;
                           counted = omega arith;
-                          list = ap (λ (p : ℕ × List ℕ). p.1) same ∙ written_first order before fits;
+                          list = ap (λ (p : Option ℕ × List ℕ). p.1) same ∙ written_first order before fits;
                         };
                     otherwise = λ q. absurd (q refl);
                   }
-
--- the answers 9 and 22 for an answer that is known by an equation alone, as `walk` has it
-pub too_short :
-    (b : Board) (before : List ℕ) (r : Answer) → good b ≡ true → length before < max_duties
-    → r ≡ plain_answer answer.list → Walks b before before r
-too_short b before r whole h e = rw e (short b before whole h)
-
-pub too_many :
-    (b : Board) (before : List ℕ) (r : Answer) → good b ≡ true → Sized b → max_duties ≤ length before
-    → most < b.counts.duties → r ≡ plain_answer answer.many → Walks b before before r
-too_many b before r whole size room h e = rw e (many b before whole size room h)

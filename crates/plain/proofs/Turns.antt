@@ -1,6 +1,6 @@
 -- The loop of `walk_rest` over the duties, and what one turn of it tells. What is left of the pool finds what
--- the whole pool finds. A duty that may come next is tried: where an order fails with it in front, the place
--- behind that order is not 0 and the list has its serials; else the list is as it was.
+-- the whole pool finds. A duty that may come next is tried: where an order fails with it in front, the list has
+-- the serials behind its own; else the list is as it was.
 use mathlib.Core.Path.{◌≡◌, refl, sym, ap, ◌∙◌}
 use mathlib.Core.Bool.{Bool, true, false, not, cond}
 use Rattle.std.specs.Prelude.{Option, None, Some}
@@ -8,7 +8,7 @@ use mathlib.Core.List.{List, [], ◌∷◌}
 use Prim.Native.Nat.{ℕ, zero, suc, ◌+◌, ◌-◌, ◌≤◌, ◌<◌}
 use native.Mathlib.Numerals.{add-one}
 use native.Mathlib.Omega.{arith}
-use lib.ListN.{length, set, drop, get_or, length-set, drop_of_length-le}
+use lib.ListN.{length, set, drop, get_or, drop_of_length-le}
 use lib.Seq.{drop-cons, take-append_seam}
 use Rattle.orders.specs.Lists.{any, keep}
 use Rattle.orders.specs.Needs.{met}
@@ -21,7 +21,9 @@ use Rattle.board.specs.Permitted.{held_in, asked_for, needs, changed}
 use Rattle.board.specs.View.{view}
 use Rattle.board.specs.Windows.{wholly_before}
 use Rattle.after.specs.Boards.{acted_board, withdrawn_board, did_board}
-use Rattle.plain.specs.Walking.{sets_world, walked, written, told}
+use Rattle.plain.specs.Walking.{sets_world, walked, told}
+use Rattle.orders.proofs.Tests.{by_test}
+use Rattle.std.proofs.lemmas.Option.{same_Some, none-some}
 use Rattle.plain.proofs.Found.{same_found}
 
 module _ (b : Board) (left : ℕ) where
@@ -50,18 +52,6 @@ pub record Tried (b : Board) (left : ℕ) (before now : List ℕ) (i : ℕ) : Ty
       walked left b ≡ first_found (found_with b left) (keep (comes_next b left) (drop i (view b).duties))
   pub list : now ≡ before
 
--- What is known once d was tried from a list `before`: the place behind the order that was found is not 0,
--- and the list has its serials once that of d is put in front of them; or nothing was found and the list is
--- as it was.
-pub record Ended
-    (found : Option (List Duty)) (d : Duty) (at : ℕ) (before : List ℕ) (end : ℕ) (now : List ℕ) : Type 0
-  where
-    pub long : length now ≡ length before
-    pub nothing : end ≡ 0 → (found ≡ None) × (now ≡ before)
-    pub order :
-        (end ≡ 0 → ⊥)
-        → (o : List Duty) × (found ≡ Some o) × ((end, set now at d.serial.0) ≡ told at before found)
-
 -- ---- the board with a duty done
 
 -- its walk is that of the pool without the duty, from the holdings with the change made
@@ -77,16 +67,53 @@ done_walks b left k d =
     first_failing (sets_world (view b).permissions (view b).rules) k (changed b.holdings d.what) l)
     (take-append_seam (without_serial d.serial.0 (view b).duties) _)
 
--- ---- the loop
+-- ---- one duty tried
 
--- what is told of one list and one order is told of the same
-told_same :
-    (at end : ℕ) {last put now before : List ℕ} → last ≡ put → now ≡ before
-    → (found whole : Option (List Duty)) → found ≡ whole → (end, put) ≡ told at now found
-    → (end, last) ≡ told at before whole
-told_same at end {before = before} p q found whole r e =
-    ap (λ (l : List ℕ). (end, l)) p
-    ∙ (e ∙ (ap (λ (l : List ℕ). told at l found) q ∙ ap (told at before) r))
+-- what is found behind d, where it comes next: what the rest finds, and nothing more where d is not permitted
+abbrev pub behind : Board → ℕ → Duty → Option (List Duty)
+behind b left d = cond (permitted_in b left d) (walked (left - 1) (done b left d)) (Some [])
+
+with_in_front : (b : Board) (left : ℕ) (d : Duty) → found_with b left d ≡ in_front d (behind b left d)
+with_in_front b left d = by_test (permitted_in b left d) (λ t. rw t refl) (λ f. rw f refl)
+
+-- what is known once d was tried from a list `before`: the rest was walked, and is told behind the place of d
+pub record Ended (found : Option (List Duty)) (at : ℕ) (before : List ℕ) (end : Option ℕ) (now : List ℕ)
+    : Type 0 where
+  pub rest : (end, now) ≡ told (at + 1) before found
+
+module _ (b : Board) (left : ℕ) (at : ℕ) (before : List ℕ) (d : Duty) where
+  -- not permitted
+  pub fails : permitted_in b left d ≡ false → Ended (behind b left d) at before (Some (at + 1)) before
+  fails f = let e : at + 1 + 0 ≡ at + 1 = omega arith in record { rest = rw (f, e) refl }
+
+  -- permitted, done, and the rest walked
+  pub goes_on :
+      permitted_in b left d ≡ true → (then : Board) → then ≡ done b left d → (end : Option ℕ) (now : List ℕ)
+      → (end, now) ≡ told (at + 1) before (walked (left - 1) then)
+      → Ended (behind b left d) at before end now
+  goes_on t then is end now e = record { rest = rw (t, ← is) e }
+
+module _ (d : Duty) where
+  -- nothing is found with d in front
+  none_found :
+      {at : ℕ} {before now : List ℕ} {end : Option ℕ} (o : Option (List Duty)) → Ended o at before end now
+      → end ≡ None → (in_front d o ≡ None) × (now ≡ before)
+  none_found None e z = (refl, ap (λ (p : Option ℕ × List ℕ). p.1) e.rest)
+  none_found (Some l) e z = absurd (none-some _ (sym z ∙ ap (λ (p : Option ℕ × List ℕ). p.0) e.rest))
+
+  -- an order is found, and told with d in front once its serial is put there
+  one_found :
+      {at : ℕ} {before now : List ℕ} {end : Option ℕ} (o : Option (List Duty)) → Ended o at before end now
+      → (place : ℕ) → end ≡ Some place
+      → (Some place, set now at d.serial.0) ≡ told at before (in_front d o)
+  one_found None e place z = absurd (none-some _ (sym (ap (λ (p : Option ℕ × List ℕ). p.0) e.rest) ∙ z))
+  one_found {at} (Some l) e place z =
+      let place_is : place ≡ at + 1 + length l =
+      same_Some _ _ (sym z ∙ ap (λ (p : Option ℕ × List ℕ). p.0) e.rest) in
+      let further : place ≡ at + suc (length l) = omega arith in
+      rw (further, ap (λ (p : Option ℕ × List ℕ). p.1) e.rest) refl
+
+-- ---- the loop
 
 module _ {b : Board} {left : ℕ} {before : List ℕ} where
   -- at the start nothing is tried
@@ -125,70 +152,34 @@ module _ {b : Board} {left : ℕ} {before : List ℕ} where
       passed_over f = record { same = rw (rest, f) at tried.same; list = tried.list }
 
       module _
-          {at end : ℕ} {then : List ℕ} (t : comes_next b left d ≡ true)
-          (ended : Ended (found_with b left d) d at now end then)
+          {at : ℕ} {end : Option ℕ} {then : List ℕ} (t : comes_next b left d ≡ true)
+          (ended : Ended (behind b left d) at now end then)
         where
           -- one with which nothing is found is tried
-          pub nothing_found : end ≡ 0 → Tried b left before then (i + 1)
+          pub nothing_found : end ≡ None → Tried b left before then (i + 1)
           nothing_found z =
-              let (e, as_it_was) = ended.nothing z in
-              record { same = rw (rest, t, e) at tried.same; list = as_it_was ∙ tried.list }
+              let (e, as_it_was) = none_found d (behind b left d) ended z in
+              record { same = rw (rest, t, with_in_front b left d, e) at tried.same; list = as_it_was ∙ tried.list }
 
           -- one with which an order is found ends the search
           pub found :
-              (end ≡ 0 → ⊥) → (last : List ℕ) → last ≡ set then at d.serial.0
-              → (end, last) ≡ told at before (walked left b)
-          found n last put =
-              let (order, e, is_told) = ended.order n in
-              let whole : walked left b ≡ Some order = rw (rest, t, e) at tried.same in
-              told_same at end put tried.list (found_with b left d) (walked left b) (e ∙ sym whole) is_told
+              (place : ℕ) → end ≡ Some place → (last : List ℕ) → last ≡ set then at d.serial.0
+              → (Some place, last) ≡ told at before (walked left b)
+          found place z last put = go (behind b left d) refl (one_found d (behind b left d) ended place z)
+            where
+              go : (o : Option (List Duty)) → behind b left d ≡ o
+                  → (Some place, set then at d.serial.0) ≡ told at now (in_front d o)
+                  → (Some place, last) ≡ told at before (walked left b)
+              go None e same = absurd (none-some _ (sym (ap (λ (p : Option ℕ × List ℕ). p.0) same)))
+              go (Some l) e same =
+                  let whole : walked left b ≡ Some (d ∷ l) = rw (rest, t, with_in_front b left d, e) at tried.same in
+                  rw (whole, put, ← tried.list) same
 
   -- at the end nothing is found
   pub over :
       {now : List ℕ} {i : ℕ} → Tried b left before now i → length (view b).duties ≤ i
-      → (at : ℕ) → (0, now) ≡ told at before (walked left b)
+      → (at : ℕ) → (None, now) ≡ told at before (walked left b)
   over {now} {i} tried h at =
       let nothing : walked left b ≡ None =
       rw (drop_of_length-le (view b).duties {i = i} h) at tried.same in
-      rw nothing (ap (λ (l : List ℕ). (0, l)) tried.list)
-
--- ---- one duty tried
-
-written_long : (at : ℕ) (order : List Duty) (list : List ℕ) → length (written at order list) ≡ length list
-written_long at [] list = refl
-written_long at (d ∷ order) list =
-    length-set (written (at + 1) order list) at d.serial.0 ∙ written_long (at + 1) order list
-
-module _ (b : Board) (left : ℕ) {at : ℕ} {before : List ℕ} (d : Duty) where
-  -- not permitted
-  pub fails : permitted_in b left d ≡ false → Ended (found_with b left d) d at before (at + 1) before
-  fails f =
-      rw f
-      (record { long = refl; nothing = λ e. absurd (omega arith); order = λ e. (d ∷ [], refl, refl) })
-
-  -- permitted, done, and the rest walked
-  pub goes_on :
-      permitted_in b left d ≡ true → (then : Board) → then ≡ done b left d → (end : ℕ) (now : List ℕ)
-      → (end, now) ≡ told (at + 1) before (walked (left - 1) then)
-      → Ended (found_with b left d) d at before end now
-  goes_on t then is end now e =
-      rw (t, ← is) (go (walked (left - 1) then) e)
-    where
-      go : (found : Option (List Duty)) → (end, now) ≡ told (at + 1) before found
-          → Ended (in_front d found) d at before end now
-      go None e =
-          let now_is : now ≡ before = ap (λ (p : ℕ × List ℕ). p.1) e in
-          record {
-            long = ap length now_is;
-            nothing = λ z. (refl, now_is);
-            order = λ n. absurd (n (ap (λ (p : ℕ × List ℕ). p.0) e));
-          }
-      go (Some o) e =
-          let end_is : end ≡ at + 1 + length o = ap (λ (p : ℕ × List ℕ). p.0) e in
-          let now_is : now ≡ written (at + 1) o before = ap (λ (p : ℕ × List ℕ). p.1) e in
-          let behind : end ≡ at + suc (length o) = omega arith in
-          record {
-            long = ap length now_is ∙ written_long (at + 1) o before;
-            nothing = λ z. absurd (omega arith);
-            order = λ n. (d ∷ o, refl, λ i. (behind i, set (now_is i) at d.serial.0));
-          }
+      rw nothing (ap (λ (l : List ℕ). (None, l)) tried.list)

@@ -35,8 +35,8 @@ abbrev pub written : ℕ → List Duty → List ℕ → List ℕ
 written at [] list = list
 written at (d ∷ order) list = set (written (at + 1) order list) at d.serial.0
 
--- where an order is found, the place behind it, and the list with its serials from a place on; else 0, and
--- the list as it was
-abbrev pub told : ℕ → List ℕ → Option (List Duty) → ℕ × List ℕ
-told at list None = (0, list)
-told at list (Some order) = (at + length order, written at order list)
+-- where an order is found, the place behind it, and the list with its serials from a place on; else the list
+-- as it was
+abbrev pub told : ℕ → List ℕ → Option (List Duty) → Option ℕ × List ℕ
+told at list None = (None, list)
+told at list (Some order) = (Some (at + length order), written at order list)

@@ -4,10 +4,11 @@
 
 ghost use Rattle.std.specs.Prelude.{◌≡◌, ◌+◌, ◌≤◌, set};
 ghost use Rattle.board.specs.Limits.{max_duties};
+ghost use Rattle.board.specs.Refusals.{answered, plainly_done};
 ghost use Rattle.plain.specs.Walks.{Walks};
 ghost use Rattle.plain.specs.Walking.{walked, told};
 
-use board::{Answer, Board, Serial};
+use board::{Board, Refusal, Serial};
 
 // A pool of more duties is not walked.
 pub const MOST: usize = 8;
@@ -22,55 +23,48 @@ fn put(list: &mut [u32], at: usize, serial: Serial)
 }
 
 // Walk the duties that are left, from the holdings of the board. Where an order fails, the serials of the
-// first such order stand in the list from place `at` on, and the place behind them is answered; else 0.
-fn walk_rest(b: Board, left: usize, at: usize, list: &mut [u32]) -> usize
+// first such order stand in the list from place `at` on, and the place behind them is answered.
+fn walk_rest(b: &Board, left: usize, at: usize, list: &mut [u32]) -> Option<usize>
     requires { at + left ≤ max_duties }
-    ensures { (result, list.new) ≡ told at list.old (walked left b) }
+    ensures { (result, list.new) ≡ told at list.old (walked left b.now) }
 {
     if left == 0 {
-        return 0;
+        return None;
     }
-    let n = b.counts.duties as usize;
-    let duties = b.duties;
-    let mut i: usize = 0;
-    while (i < n) & (i < Board::DUTIES) {
-        let d = duties[i];
-        if !pool::is_held_back(b.duties(), d) {
-            let serial = d.serial;
-            let what = d.what;
-            let mut end = at + 1;
-            if permitted::permitted(&b, d.doer, what) {
-                let rest = after::did(b, b.clock, serial, what);
-                end = walk_rest(rest, left - 1, at + 1, list);
-            }
-            if end != 0 {
-                put(list, at, serial);
-                return end;
+    let duties = b.duties();
+    for d in duties {
+        if !pool::is_held_back(duties, *d) {
+            let found = if permitted::permitted(b, d.doer, d.what) {
+                let rest = after::did(*b, b.clock, d.serial, d.what);
+                walk_rest(&rest, left - 1, at + 1, list)
+            } else {
+                Some(at + 1)
+            };
+            if let Some(end) = found {
+                put(list, at, d.serial);
+                return Some(end);
             }
         }
-        i += 1;
     }
-    0
+    None
 }
 
 // Walk every order of a board: 19, 9, 22, 8. It only reads the board.
-#[tactic(auto, using(crate::proofs::Answered::too_short, crate::proofs::Answered::too_many))]
-pub fn walk(b: Board, list: &mut [u32]) -> Answer
-    ensures { Walks b list.old list.new result }
+pub fn walk(b: Board, list: &mut [u32]) -> Result<(), Refusal>
+    ensures { Walks b list.old list.new (answered plainly_done result) }
 {
     if !values::is_good(b) {
-        return Answer::plain(Answer::BROKEN);
+        return Err(Refusal::Broken);
     }
     if list.len() < Board::DUTIES {
-        return Answer::plain(Answer::LIST);
+        return Err(Refusal::List);
     }
-    let n = b.counts.duties as usize;
+    let n = b.duties().len();
     if MOST < n {
-        return Answer::plain(Answer::MANY);
+        return Err(Refusal::Many);
     }
-    let length = walk_rest(b, n, 0, list);
-    if length == 0 {
-        return Answer::plain(Answer::DONE);
+    match walk_rest(&b, n, 0, list) {
+        Some(length) => Err(Refusal::Red { length }),
+        None => Ok(()),
     }
-    Answer::red(length)
 }

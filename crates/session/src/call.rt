@@ -84,11 +84,18 @@ pub fn called(b: Board, r: Record, list: &mut [u32]) -> Outcome
         return withdraw::withdraw(b, list, request_withdraw(r));
     }
     if r.kind == crate::CHECK {
-        let answer = verdict::check(b, list).map_or_else(Answer::from, |_| Answer::plain(Answer::DONE));
+        let answer = verdict::check(b, list).map_or_else(
+            Answer::from,
+            |_| Answer::plain(Answer::DONE),
+        );
         return outcome_of(b, answer);
     }
     if r.kind == crate::WALK {
-        return outcome_of(b, plain::walk(b, list));
+        let answer = plain::walk(b, list).map_or_else(
+            Answer::from,
+            |_| Answer::plain(Answer::DONE),
+        );
+        return outcome_of(b, answer);
     }
     outcomes::refused(b, Answer::DONE)
 }

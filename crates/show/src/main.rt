@@ -4,9 +4,9 @@
 
 mod walk;
 
-use board::{Answer, Board};
+use board::{Board, Refusal};
 use std::io;
-use walk::{MOST_LINES, empty, show_rest};
+use walk::{MOST_LINES, Order, show_rest};
 
 // Print how many lines were left out, if some were, and how many there are.
 fn print_count(rt: &impl Print, orders: u32) -> io::Result<()> {
@@ -16,34 +16,34 @@ fn print_count(rt: &impl Print, orders: u32) -> io::Result<()> {
     println!(rt; "orders {orders}")
 }
 
-// Print the first failing order, of this length.
-fn print_failing(rt: &impl Print, length: usize, list: [u32; Board::DUTIES]) -> io::Result<()> {
+// Print the first failing order, which is so many serials at the start of the list.
+fn print_failing(rt: &impl Print, length: usize, list: &[u32]) -> io::Result<()> {
     print!(rt; "no {length}")?;
-    let count = board::within(length, Board::DUTIES);
-    let mut i: usize = 0;
-    while i < count {
-        print!(rt; " {}", list[i])?;
-        i += 1;
+    for serial in list.iter().take(length) {
+        print!(rt; " {serial}")?;
     }
     println!(rt)
+}
+
+// Print every order of a board, and how many there are.
+fn print_orders(rt: &impl Print, b: &Board) -> io::Result<()> {
+    let orders = show_rest(rt, b, b.duties().len(), Order::empty(), 0)?;
+    print_count(rt, orders)
 }
 
 // Print every order of a board, and the verdict of the plain walk.
 fn show(rt: &impl Print, b: Board) -> io::Result<()> {
     let mut list = [0u32; Board::DUTIES];
-    let answer = plain::walk(b, &mut list);
-    let number = answer.number;
-    if (number != Answer::DONE) & (number != Answer::RED) {
-        return println!(rt; "refused {number}");
-    }
-    let n = b.counts.duties as usize;
-    let order = empty();
-    let shown = show_rest(rt, b, n, order, 0)?;
-    print_count(rt, shown)?;
-    if number == Answer::DONE {
-        println!(rt; "yes {n}")
-    } else {
-        print_failing(rt, answer.length, list)
+    match plain::walk(b, &mut list) {
+        Ok(()) => {
+            print_orders(rt, &b)?;
+            println!(rt; "yes {}", b.duties().len())
+        }
+        Err(Refusal::Red { length }) => {
+            print_orders(rt, &b)?;
+            print_failing(rt, length, &list)
+        }
+        Err(refusal) => println!(rt; "refused {}", refusal.number()),
     }
 }
 

@@ -6,59 +6,48 @@ use std::io;
 // No more orders are printed; the rest is only counted.
 pub(crate) const MOST_LINES: u32 = 5000;
 
-// The duties done so far, told by their serials.
+// The duties done so far, told by their serials: so many at the start of a room that is never too small, since
+// no more duties are walked. It is of fixed size: nothing here allocates.
 #[derive(Clone, Copy)]
 pub(crate) struct Order {
-    pub serials: [u32; plain::MOST],
-    pub length: usize,
+    room: [u32; plain::MOST],
+    length: usize,
 }
 
-// No duty is done.
-pub(crate) fn empty() -> Order {
-    let serials = [0u32; plain::MOST];
-    Order { serials, length: 0 }
-}
-
-// The order with one duty more, where it has room.
-fn with_next(order: Order, serial: Serial) -> Order {
-    let at = order.length;
-    let mut serials = order.serials;
-    if at < plain::MOST {
-        serials[at] = serial.0;
-        return Order {
-            serials,
-            length: at + 1,
-        };
+impl Order {
+    // No duty is done.
+    pub(crate) fn empty() -> Self {
+        Order {
+            room: [0; plain::MOST],
+            length: 0,
+        }
     }
-    order
-}
 
-// Print the serials of an order, each with a space behind it.
-fn print_serials(rt: &impl Print, order: Order) -> io::Result<()> {
-    let serials = order.serials;
-    let count = board::within(order.length, plain::MOST);
-    let mut i: usize = 0;
-    while i < count {
-        print!(rt; "{} ", serials[i])?;
-        i += 1;
+    // The order with one duty more, where it has room.
+    fn with(mut self, serial: Serial) -> Self {
+        if self.length < plain::MOST {
+            self.room[self.length] = serial.0;
+            self.length += 1;
+        }
+        self
     }
-    Ok(())
+
+    // Print its serials, each with a space behind it.
+    fn print(&self, rt: &impl Print) -> io::Result<()> {
+        for serial in self.room.iter().take(self.length) {
+            print!(rt; "{serial} ")?;
+        }
+        Ok(())
+    }
 }
 
 // One order more: print its line, unless enough are printed, and count it.
 fn with_order(rt: &impl Print, shown: u32, order: Order, permitted: bool) -> io::Result<u32> {
     if shown < MOST_LINES {
-        print_serials(rt, order)?;
-        if permitted {
-            println!(rt; "yes")?;
-        } else {
-            println!(rt; "no")?;
-        }
+        order.print(rt)?;
+        println!(rt; "{}", if permitted { "yes" } else { "no" })?;
     }
-    if shown < 4294967295 {
-        return Ok(shown + 1);
-    }
-    Ok(shown)
+    Ok(shown.saturating_add(1))
 }
 
 // Show every order that begins with the duties done and goes on with those left: each duty that may come
@@ -66,7 +55,7 @@ fn with_order(rt: &impl Print, shown: u32, order: Order, permitted: bool) -> io:
 // were met by now, where so many were met before.
 pub(crate) fn show_rest(
     rt: &impl Print,
-    b: Board,
+    b: &Board,
     left: usize,
     done: Order,
     so_far: u32,
@@ -74,25 +63,18 @@ pub(crate) fn show_rest(
     if left == 0 {
         return with_order(rt, so_far, done, true);
     }
-    let n = b.counts.duties as usize;
-    let duties = b.duties;
-    let count = board::within(n, Board::DUTIES);
+    let duties = b.duties();
     let mut shown = so_far;
-    let mut i: usize = 0;
-    while i < count {
-        let d = duties[i];
-        if !pool::is_held_back(b.duties(), d) {
-            let serial = d.serial;
-            let what = d.what;
-            let next = with_next(done, serial);
-            if permitted::permitted(&b, d.doer, what) {
-                let rest = after::did(b, b.clock, serial, what);
-                shown = show_rest(rt, rest, left - 1, next, shown)?;
+    for d in duties {
+        if !pool::is_held_back(duties, *d) {
+            let next = done.with(d.serial);
+            shown = if permitted::permitted(b, d.doer, d.what) {
+                let rest = after::did(*b, b.clock, d.serial, d.what);
+                show_rest(rt, &rest, left - 1, next, shown)?
             } else {
-                shown = with_order(rt, shown, next, false)?;
-            }
+                with_order(rt, shown, next, false)?
+            };
         }
-        i += 1;
     }
     Ok(shown)
 }

@@ -1,9 +1,0 @@
--- `print_failing` is safe and ends: i counts up to the count, which is at most the room.
-use Rattle.std.proofs.Common.{◌-◌, ◌≤◌}
-use Rattle.show.proofs.print_failing.Given as goal
-
-abbrev pub invariant-loop-i : goal.invariant-loop-i
-invariant-loop-i g l = (l.i ≤ l.count) × (l.count ≤ 128)
-
-abbrev pub decreases-loop-i : goal.decreases-loop-i
-decreases-loop-i g l = l.count - l.i
