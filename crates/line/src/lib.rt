@@ -1,12 +1,15 @@
 // The line that the program prints for an answer: a word and numbers with single spaces, and a newline.
 #![tactic(auto)]
 
-ghost use Rattle.std.specs.Prelude.{◌≡◌, [], ◌∷◌, ◌++◌, ◌+◌, ◌-◌, ◌*◌, ◌%◌, ◌≤◌, min, length, take, drop};
+ghost use Rattle.std.specs.Prelude.{◌≡◌, [], ◌∷◌, ◌++◌, ◌*◌, ◌≤◌, min, length, take};
 ghost use Rattle.board.specs.Limits.{max_duties};
 ghost use Rattle.put.specs.Put.{Put};
-ghost use Rattle.line.specs.Line.{max_digits, decimal, max_number, numbers, max_word, newline, line_of};
+ghost use Rattle.put.specs.Writes.{HasRoom, Writes};
+ghost use Rattle.line.specs.Line.{max_number, numbers, max_word, newline, line_of};
 
 use board::{Answer, Board};
+use itoa::Buffer;
+use put::Writer;
 
 // The most bytes of a word.
 const WORD: usize = 7;
@@ -17,87 +20,44 @@ const DIGITS: usize = 20;
 // Room for any line: a word, 129 numbers with a space before each, and a newline.
 pub const ROOM: usize = WORD + (1 + DIGITS) * (1 + Board::DUTIES) + 1;
 
-// The last digit of a number, in ASCII.
-fn digit(n: u64) -> u8
-    ensures { result ≡ 48 + n % 10 }
-{
-    48 + (n % 10) as u8
-}
-
-// Put the decimal digits of a number at the end of a text, and answer the place of the first.
-fn spell(n: u64, text: &mut [u8]) -> usize
-    requires { length text.old ≡ max_digits }
-    ensures { (result ≤ max_digits) × (take (max_digits - result) (drop result text.new) ≡ decimal n) }
-{
-    let mut at: usize = DIGITS;
-    let mut rest = n;
-    while rest >= 10 {
-        at -= 1;
-        text[at] = digit(rest);
-        rest /= 10;
-    }
-    at -= 1;
-    text[at] = digit(rest);
-    at
-}
-
-// Put bytes at a place, and answer the place after them.
-fn put(out: &mut [u8], at: usize, bytes: &[u8]) -> usize
-    requires { at + length bytes.now ≤ length out.old }
-    ensures { Put bytes.now out.old at out.new result }
-{
-    let mut here = at;
-    let mut i: usize = 0;
-    while i < bytes.len() {
-        out[here] = bytes[i];
-        here += 1;
-        i += 1;
-    }
-    here
-}
-
 // Put a space and a number.
-fn put_number(out: &mut [u8], at: usize, n: u64) -> usize
-    requires { at + max_number ≤ length out.old }
-    ensures { Put (numbers (n ∷ [])) out.old at out.new result }
+fn put_number(n: u64, line: &mut Writer<'_>)
+    requires { HasRoom max_number line.old }
+    ensures { Writes (numbers (n ∷ [])) line.old line.new }
 {
-    let mut text = [0u8; DIGITS];
-    let first = spell(n, &mut text);
-    let here = put(out, at, b" ");
-    put(out, here, &text[first..])
+    let mut digits = Buffer::new();
+    line.put(b" ");
+    line.put(digits.format(n).as_bytes());
 }
 
-// Put the first n numbers of a list, each with a space before it.
-fn put_numbers(out: &mut [u8], at: usize, list: &[u32], n: usize) -> usize
-    requires { (n ≤ length list.now) × (at + max_number * n ≤ length out.old) }
-    ensures { Put (numbers (take n list.now)) out.old at out.new result }
+// Put the numbers of a list, each with a space before it.
+fn put_numbers(list: &[u32], line: &mut Writer<'_>)
+    requires { HasRoom (max_number * length list.now) line.old }
+    ensures { Writes (numbers list.now) line.old line.new }
 {
-    let mut here = at;
-    let mut i: usize = 0;
-    while i < n {
-        here = put_number(out, here, list[i] as u64);
-        i += 1;
+    for number in list {
+        put_number(u64::from(*number), line);
     }
-    here
 }
 
-// Put a whole line at the start: a word, a number, the first n numbers of a list, and a newline.
-fn put_line(out: &mut [u8; ROOM], word: &[u8], number: u64, list: &[u32], n: usize) -> usize
-    requires { (length word.now ≤ max_word) × (n ≤ max_duties) × (n ≤ length list.now) }
-    ensures { Put (word.now ++ (numbers (number ∷ take n list.now) ++ newline))
-        out.old 0 out.new result }
+// Put a whole line at the start: a word, a number, the numbers of a list, and a newline. Answer its length.
+fn put_line(word: &[u8], number: u64, list: &[u32], out: &mut [u8; ROOM]) -> usize
+    requires { (length word.now ≤ max_word) × (length list.now ≤ max_duties) }
+    ensures { Put (word.now ++ (numbers (number ∷ list.now) ++ newline)) out.old 0 out.new result }
 {
-    let first = put(out, 0, word);
-    let second = put_number(out, first, number);
-    let end = put_numbers(out, second, list, n);
-    put(out, end, b"\n")
+    let mut line = Writer { room: out, at: 0 };
+    line.put(word);
+    put_number(number, &mut line);
+    put_numbers(list, &mut line);
+    line.put(b"\n");
+    line.at
 }
 
-// How many serials are shown: as many as the answer says, and no more than 128 and than there are.
-fn shown(n: usize, list: &[u32]) -> usize
-    ensures { result ≡ min (min n max_duties) (length list.now) }
+// The serials that are shown: as many as the answer says, and no more than 128 and than there are.
+fn shown(length: usize, list: &[u32]) -> &[u32]
+    ensures { result.now ≡ take (min length max_duties) list.now }
 {
-    board::within(board::within(n, Board::DUTIES), list.len())
+    &list[..length.min(Board::DUTIES).min(list.len())]
 }
 
 // Write the line for an answer, with the number of duties of the board and the lent list, to the start of
@@ -106,12 +66,9 @@ pub fn write_line(answer: Answer, duties: u16, list: &[u32], out: &mut [u8; ROOM
     ensures { Put (line_of answer duties list.now)
         out.old 0 out.new result }
 {
-    if answer.number == Answer::DONE {
-        return put_line(out, b"yes", duties as u64, list, 0);
+    match answer.number {
+        Answer::DONE => put_line(b"yes", u64::from(duties), &[], out),
+        Answer::RED => put_line(b"no", answer.length as u64, shown(answer.length, list), out),
+        number => put_line(b"refused", u64::from(number), &[], out),
     }
-    if answer.number == Answer::RED {
-        let n = shown(answer.length, list);
-        return put_line(out, b"no", answer.length as u64, list, n);
-    }
-    put_line(out, b"refused", answer.number as u64, list, 0)
 }

@@ -1,3 +1,3 @@
-pub mod Judged
+pub mod Length
 pub mod Says
 pub mod Settled

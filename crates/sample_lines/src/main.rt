@@ -1,8 +1,6 @@
 // The lines for many inputs in one: each is four bytes of length, lowest first, and then its bytes.
 #![tactic(auto)]
 
-ghost use Rattle.std.specs.Prelude.{◌<◌};
-
 use std::io;
 
 // More than the longest input here.
@@ -11,41 +9,23 @@ const ROOM: usize = 32768;
 // More than there are inputs.
 const MOST: u32 = 1000;
 
-fn wide(x: u8) -> usize
-    ensures { result < 256 }
-{
-    x as usize
-}
-
-// The number in four bytes, lowest first.
-fn number(s: &[u8; 4]) -> usize {
-    wide(s[0]) + wide(s[1]) * 256 + wide(s[2]) * 65536 + wide(s[3]) * 16777216
-}
-
-// Print the line of the next input. False, and nothing printed, if there is none.
-fn next(rt: &(impl Input + Print)) -> io::Result<bool> {
+// The length of the next input; none where the inputs end.
+fn next_length(rt: &impl Input) -> io::Result<Option<usize>> {
     let mut length = [0u8; 4];
     let mut input = rt.reader();
-    let read = streams::read_full(&mut input, &mut length)?;
-    if read < 4 {
-        return Ok(false);
+    if streams::read_full(&mut input, &mut length)? < length.len() {
+        return Ok(None);
     }
-    let n = number(&length);
-    if ROOM < n {
-        return Ok(false);
-    }
-    let mut room = [0u8; ROOM];
-    standard_input::print_line(rt, &mut room[..n])?;
-    Ok(true)
+    Ok(Some(u32::from_le_bytes(length) as usize))
 }
 
 fn main(rt: HostRuntime) -> io::Result<()> {
-    let mut left = MOST;
-    while 0 < left {
-        if !next(&rt)? {
-            return Ok(());
+    let mut room = [0u8; ROOM];
+    for _ in 0..MOST {
+        match next_length(&rt)? {
+            Some(n) if n <= ROOM => standard_input::print_line(&rt, &mut room[..n])?,
+            _ => return Ok(()),
         }
-        left -= 1;
     }
     Ok(())
 }

@@ -1,6 +1,7 @@
 -- A board as the bytes of a version 1 file: document 01, section Board file. The header, then the four parts
 -- with no gaps, each the bytes of its records.
-use Rattle.std.specs.Prelude.{List, [], ◌∷◌, map, ℕ, length}
+use Rattle.std.specs.Prelude.{List, [], ◌∷◌, ℕ, length}
+use Rattle.std.specs.List.{flat_map}
 use Rattle.board.specs.declared.Counts.{Counts}
 use Rattle.board.specs.declared.Duty.{Duty}
 use Rattle.board.specs.declared.Permission.{Permission}
@@ -82,7 +83,7 @@ duty_bytes d =
 
 -- the bytes of a part's records, in turn
 abbrev pub part : {A : Type 0} → (A → List ℕ) → List A → List ℕ
-part bytes records = together (map bytes records)
+part bytes records = flat_map bytes records
 
 unfoldable pub file_of : View → List ℕ
 file_of v =

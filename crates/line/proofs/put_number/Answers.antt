@@ -1,7 +1,11 @@
--- The digits are spelt in a text of their own, then a space is put, and the digits after it.
+-- A space is put, and the digits after it.
+use mathlib.Core.Path.{sym, ◌∙◌}
 use mathlib.Core.List.{append-nil}
-use Rattle.put.proofs.PutLaws.{put_then}
+use Rattle.put.proofs.WriteLaws.{writes_then}
+use Rattle.line.proofs.NumberLaws.{same_decimal}
 use Rattle.line.proofs.put_number.Goals as goal
 
 pub returns : goal.returns
-returns c = rw (append-nil, ← c.spell-first.ensures.1) (put_then c.put-here.ensures c.put.ensures)
+returns c =
+    let digits = c.as_bytes.ensures.value ∙ c.format.ensures.text ∙ sym (same_decimal c.args.n c.ranges.n.fits) in
+    rw append-nil (writes_then c.put.ensures (rw digits at c.put-2.ensures))

@@ -1,27 +1,15 @@
--- One more number is put after those that are put, and it has room, since none is longer than max_number.
-use mathlib.Core.Path.{◌≡◌}
-use Prim.Native.Nat.{◌<◌}
+-- Each number is put after those before it, and has room.
 use native.Mathlib.Omega.{arith}
-use lib.ListN.{length}
-use Rattle.put.proofs.PutLaws.{put_nothing, put_then}
-use Rattle.line.proofs.NumberLaws.{first_numbers_length, numbers_next}
+use Rattle.put.proofs.WriteLaws.{writes_then}
+use Rattle.line.proofs.NumberLaws.{numbers_next, first_numbers_length}
 use Rattle.line.proofs.put_numbers.Goals as goal
 
-pub loop-i-init : goal.loop-i-init
-loop-i-init c = (omega arith, put_nothing c.args.out.now c.args.at (omega arith))
+pub put_number-requires : goal.put_number-requires
+put_number-requires c =
+    omega (arith, first_numbers_length c.loop-number.number-index c.args.list.now, c.loop-number-test.true)
 
-pub put_number-here-requires : goal.put_number-here-requires
-put_number-here-requires c = omega (arith, first_numbers_length c.loop-i.i c.args.list.now)
-
-pub loop-i-preserved : goal.loop-i-preserved
-loop-i-preserved c =
-    let l = c.loop-i in
-    let list = c.args.list.now in
-    let within : l.i < length list = omega arith in
-    let more = put_then l.invariant.1 c.put_number-here.ensures in
-    (omega arith, rw (numbers_next list l.i within) more)
-
-pub returns : goal.returns
-returns c =
-    let e : c.loop-i.i ≡ c.args.n = omega arith in
-    rw e at c.loop-i.invariant.1
+pub loop-number-preserved : goal.loop-number-preserved
+loop-number-preserved c =
+    rw
+    (numbers_next c.args.list.now c.loop-number.number-index c.loop-number-test.true)
+    (writes_then c.loop-number.invariant (rw c.from.ensures at c.put_number.ensures))
