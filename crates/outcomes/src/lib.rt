@@ -1,51 +1,49 @@
-// What a call on the live board gives back, by value; a refusal; and the board after a call judged, for 8.
+// What an accepted call on the live board gives back, by value; what the calls with a lent list test first; and
+// the board after a call judged, for 8.
 #![tactic(auto)]
 
 ghost use Rattle.std.specs.Prelude.{◌≡◌, true};
+ghost use Rattle.board.specs.declared.Board.{Board};
+ghost use Rattle.board.specs.Answers.{Answers};
 ghost use Rattle.board.specs.Good.{good};
-ghost use Rattle.outcomes.specs.Outcomes.{refused_with, Judges};
+ghost use Rattle.board.specs.Refusals.{number_answered};
+ghost use Rattle.outcomes.specs.Outcomes.{ready_checks, Judges};
 
-use board::{Answer, Board, Serial};
+use board::{Board, Refusal, Serial};
 
-// The answer, whether the call was accepted, and the board: the one after the call, or where it is refused
-// the one given.
+// The board after the call, and the serial of the duty that was admitted, 0 where none was. A call that is
+// refused leaves the board given.
 #[derive(Clone, Copy)]
-pub struct Outcome {
-    pub answer: Answer,
-    pub accepted: bool,
+pub struct Accepted {
     pub board: Board,
+    pub serial: Serial,
 }
 
-// Refused with this number, which is not that of done.
-pub fn refused(b: Board, number: u8) -> Outcome
-    ensures { result ≡ refused_with b number }
+// What admit, act and withdraw test first: 19, 9, 10.
+pub fn ready(b: &Board, room: usize, clock: u32) -> Result<(), Refusal>
+    ensures { Answers (ready_checks b.now room clock) (number_answered result) }
 {
-    let answer = Answer::plain(number);
-    Outcome {
-        answer,
-        accepted: false,
-        board: b,
+    if !values::is_good(*b) {
+        return Err(Refusal::Broken);
     }
+    if room < Board::DUTIES {
+        return Err(Refusal::List);
+    }
+    if clock < b.clock {
+        return Err(Refusal::Clock);
+    }
+    Ok(())
 }
 
 // Judge the board after a call, which is good: where it is green the call is accepted, with this serial; else
-// it is refused.
+// it is refused, whatever the board b was that it was given.
 #[tactic(auto, using(crate::proofs::Judging::judged_refused, crate::proofs::Judging::judged_accepted))]
-pub fn judged(b: Board, after: Board, serial: Serial, list: &mut [u32]) -> Outcome
-    ensures { good after ≡ true → Judges b after serial.0 list.old list.new result }
+pub fn judged(after: Board, serial: Serial, list: &mut [u32]) -> Result<Accepted, Refusal>
+    ensures { (b : Board) → good after ≡ true → Judges b after serial.0 list.old list.new result }
 {
-    let answer = verdict::check_good(after, list).map_or_else(Answer::from, |_| Answer::plain(Answer::DONE));
-    if answer.number != Answer::DONE {
-        return Outcome {
-            answer,
-            accepted: false,
-            board: b,
-        };
-    }
-    let done = Answer::done(serial);
-    Outcome {
-        answer: done,
-        accepted: true,
+    verdict::check_good(after, list)?;
+    Ok(Accepted {
         board: after,
-    }
+        serial,
+    })
 }
