@@ -1,5 +1,5 @@
 -- What act promises, for every board value, lent list and request.
-use Rattle.std.specs.Prelude.{◌≡◌, false, List, [], ◌∷◌, ◌++◌, ℕ, ◌<◌, length}
+use Rattle.std.specs.Prelude.{◌≡◌, false, List, [], ◌∷◌, ◌++◌, ℕ, length}
 use Rattle.board.specs.declared.Answer.{Answer}
 use Rattle.board.specs.declared.Board.{Board}
 use Rattle.board.specs.declared.What.{What}
@@ -7,11 +7,10 @@ use Rattle.board.specs.After.{acted}
 use Rattle.board.specs.Answers.{Check, check}
 use Rattle.board.specs.Called.{Called}
 use Rattle.board.specs.Doing.{what_of}
-use Rattle.board.specs.Good.{good}
 use Rattle.board.specs.Green.{Red, permitted_now}
-use Rattle.board.specs.Limits.{max_duties}
 use Rattle.board.specs.Numbers as answer
 use Rattle.board.specs.View.{View, view}
+use Rattle.outcomes.specs.Outcomes.{ready_checks}
 use Rattle.requests.specs.declared.RequestAct.{RequestAct}
 use Rattle.requests.specs.Requests.{doing_fits}
 
@@ -26,13 +25,11 @@ after_act b q = acted (view b) q.clock (what_now q)
 -- 19, 9, 10, 11, 15
 abbrev pub act_earlier : Board → ℕ → RequestAct → List Check
 act_earlier b room q =
-    check answer.broken (good b ≡ false)
-    ∷ check answer.list (room < max_duties)
-    ∷ check answer.clock (q.clock < b.clock)
-    ∷ check answer.request
+    ready_checks b room q.clock
+    ++ (check answer.request
     (doing_fits b.counts.users b.counts.roles q.doer q.action q.first q.second ≡ false)
     ∷ check answer.not_permitted (permitted_now (view b) q.doer (what_now q) ≡ false)
-    ∷ []
+    ∷ [])
 
 -- Act: 19, 9, 10, 11, 15, 8.
 abbrev pub act_checks : Board → ℕ → RequestAct → List Check

@@ -2,48 +2,38 @@
 #![tactic(auto)]
 
 ghost use Rattle.board.specs.Answers.{Answers};
-ghost use Rattle.outcomes.specs.Outcomes.{Flagged};
+ghost use Rattle.board.specs.Refusals.{number_answered};
+ghost use Rattle.outcomes.specs.Outcomes.{answer_of, board_left};
 ghost use Rattle.act.specs.ActsNow.{act_earlier, ActsNow};
 
-use board::{Answer, Board, Serial};
-use outcomes::Outcome;
+use board::{Board, Refusal, Serial};
+use outcomes::Accepted;
 use requests::RequestAct;
 
-// 19, 9, 10, 11, 15, or 0 where none of these applies.
-#[tactic(auto, using(crate::proofs::Refusing::answers_15, crate::proofs::Refusing::answers_0))]
-fn refusal(b: Board, room: usize, q: RequestAct) -> u8
-    ensures { Answers (act_earlier b room q) result }
+// What is tested before the board after is judged: 19, 9, 10, 11, 15.
+#[tactic(auto, using(crate::proofs::Refusing::not_ready, crate::proofs::Refusing::answers_11))]
+fn allowed(b: &Board, room: usize, q: RequestAct) -> Result<(), Refusal>
+    ensures { Answers (act_earlier b.now room q) (number_answered result) }
 {
-    if !values::is_good(b) {
-        return Answer::BROKEN;
-    }
-    if room < Board::DUTIES {
-        return Answer::LIST;
-    }
-    if q.clock < b.clock {
-        return Answer::CLOCK;
-    }
-    let counts = b.counts;
-    if !requests::doing_fits(counts, q.doer, q.action, q.first, q.second) {
-        return Answer::REQUEST;
+    outcomes::ready(b, room, q.clock)?;
+    if !requests::doing_fits(b.counts, q.doer, q.action, q.first, q.second) {
+        return Err(Refusal::Request);
     }
     let what = records::what_of(q.action, q.first, q.second);
-    if !permitted::permitted(&b, q.doer, what) {
-        return Answer::NOT_PERMITTED;
+    if !permitted::permitted(b, q.doer, what) {
+        return Err(Refusal::NotPermitted);
     }
-    Answer::DONE
+    Ok(())
 }
 
 // Act: 19, 9, 10, 11, 15, 8.
-pub fn act(b: Board, list: &mut [u32], q: RequestAct) -> Outcome
-    ensures { ActsNow b list.old q result.answer result.board list.new × Flagged result }
+#[tactic(auto, using(crate::proofs::Acting::refused_acts))]
+pub fn act(b: Board, list: &mut [u32], q: RequestAct) -> Result<Accepted, Refusal>
+    ensures { ActsNow b list.old q (answer_of result) (board_left b result) list.new }
 {
-    let number = refusal(b, list.len(), q);
-    if number != Answer::DONE {
-        return outcomes::refused(b, number);
-    }
+    allowed(&b, list.len(), q)?;
     let what = records::what_of(q.action, q.first, q.second);
     let after = after::acted(b, q.clock, what);
     let none = Serial(0);
-    outcomes::judged(b, after, none, list)
+    outcomes::judged(after, none, list)
 }

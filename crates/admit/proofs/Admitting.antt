@@ -6,17 +6,20 @@ use mathlib.Core.List.{List, [], ◌∷◌, ◌++◌}
 use Prim.Native.Nat.{ℕ, ◌+◌, ◌≤◌, ◌<◌}
 use native.Mathlib.Omega.{arith}
 use lib.ListN.{length, set, length-append}
+use Rattle.std.specs.Prelude.{Result}
 use borrow.Author.Tests.{ltb-true, leb-true}
 use Rattle.orders.proofs.Lists.{at_cons}
 use Rattle.orders.proofs.Tests.{is_true, and_left, and_right}
 use Rattle.board.specs.declared.Board.{Board}
 use Rattle.board.specs.declared.Duty.{Duty}
 use Rattle.board.specs.After.{with_serial}
-use Rattle.board.specs.Answers.{Answers, NoneApplies}
+use Rattle.board.specs.declared.Refusal.{Refusal}
+use Rattle.board.specs.Answers.{Check, Answers, NoneApplies}
 use Rattle.board.specs.Filler.{no_duty, Sized}
 use Rattle.board.specs.Good.{good}
 use Rattle.board.specs.Limits.{max_duties, max_next}
 use Rattle.board.specs.Numbers as answer
+use Rattle.board.specs.Refusals.{number_of, refused_answer}
 use Rattle.board.specs.Saying.{board_saying}
 use Rattle.board.specs.View.{view}
 use Rattle.board.specs.Windows.{window_fits}
@@ -24,9 +27,9 @@ use Rattle.board.proofs.AnswersLaws.{done_none}
 use Rattle.board.proofs.SayingLaws.{ViewFits, view_fits, padded_next, saying_good}
 use Rattle.after.proofs.AfterLaws.{same_permissions, same_rules, same_duties, same_holdings}
 use Rattle.after.proofs.FitsLaws.{NewFits, admitted_fits}
-use Rattle.outcomes.specs.declared.Outcome.{Outcome}
-use Rattle.outcomes.specs.Outcomes.{Flagged, refused_with, Judges}
-use Rattle.outcomes.proofs.Judging.{refused_called, refused_flagged, judged_called}
+use Rattle.outcomes.specs.declared.Accepted.{Accepted}
+use Rattle.outcomes.specs.Outcomes.{answer_of, board_left, Judges}
+use Rattle.outcomes.proofs.Judging.{refused_called, judged_called}
 use Rattle.requests.specs.declared.RequestAdmit.{RequestAdmit}
 use Rattle.requests.specs.Requests.{doing_fits, asked}
 use Rattle.admit.specs.Admits.{after_admit, admit_earlier, Admits}
@@ -88,24 +91,18 @@ module _ (b : Board) (size : Sized b) (is_good : good b ≡ true)
 
 -- ---- what admit promises
 
-module _ (b : Board) (size : Sized b) (before : List ℕ) (q : RequestAdmit) (number : ℕ)
-    (answers : Answers (admit_earlier b (length before) q) number) where
+module _ (b : Board) (before : List ℕ) (q : RequestAdmit) where
+  abbrev earlier : List Check
+  earlier = admit_earlier b (length before) q
+
   pub refused_admits :
-      (r : Outcome) → r ≡ refused_with b number → (number ≡ answer.done → ⊥)
-      → Admits b before q r.answer r.board before × Flagged r
-  refused_admits r is d =
-      let earlier = admit_earlier b (length before) q in
-      rw is (
-        refused_called earlier b (after_admit b q) b.next.0 before number refl answers d,
-        refused_flagged earlier b (after_admit b q) b.next.0 before number d,
-      )
+      (e : Refusal) → Answers earlier (number_of e) → Admits b before q (refused_answer e) b before
+  refused_admits e a = refused_called earlier b (after_admit b q) b.next.0 before e refl a
 
   -- no earlier check applies
-  module _ (passes : number ≡ answer.done) where
-    none : NoneApplies (admit_earlier b (length before) q)
-    none =
-        done_none (admit_earlier b (length before) q) refl
-        (subst (Answers (admit_earlier b (length before) q)) passes answers)
+  module _ (size : Sized b) (answers : Answers earlier answer.done) where
+    none : NoneApplies earlier
+    none = done_none earlier refl answers
 
     pub whole : good b ≡ true
     whole = is_true (good b) none.0
@@ -137,16 +134,14 @@ module _ (b : Board) (size : Sized b) (before : List ℕ) (q : RequestAdmit) (nu
         (omega (arith, few)) (omega (arith, spare))
 
     pub judged_admits :
-        (next : Board) → next ≡ board_saying (after_admit b q) → (after : List ℕ) (r : Outcome)
-        → (good next ≡ true → Judges b next b.next.0 before after r)
-        → Admits b before q r.answer r.board after × Flagged r
+        (next : Board) → next ≡ board_saying (after_admit b q) → (after : List ℕ)
+        (r : Result Accepted Refusal)
+        → ((c : Board) → good next ≡ true → Judges c next b.next.0 before after r)
+        → Admits b before q (answer_of r) (board_left b r) after
     judged_admits next is after r j =
         let short = none.1.0 in
         let room : max_duties ≤ length before = omega arith in
         let judges =
-        subst (λ (n : Board). (good n ≡ true → Judges b n b.next.0 before after r)) is j
-        (saying_good (after_admit b q) fits_after) in (
-          judged_called (admit_earlier b (length before) q) b (after_admit b q) b.next.0 before after r none
-              fits_after room judges,
-          judges.flag,
-        )
+        subst (λ (n : Board). (good n ≡ true → Judges b n b.next.0 before after r)) is (j b)
+        (saying_good (after_admit b q) fits_after) in
+        judged_called earlier b (after_admit b q) b.next.0 before after r none fits_after room judges

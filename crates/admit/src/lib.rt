@@ -6,14 +6,15 @@ ghost use Rattle.board.specs.After.{with_serial, admitted};
 ghost use Rattle.board.specs.Answers.{Answers};
 ghost use Rattle.board.specs.Good.{good};
 ghost use Rattle.board.specs.Limits.{max_duties, max_next};
+ghost use Rattle.board.specs.Refusals.{number_answered};
 ghost use Rattle.board.specs.Saying.{board_saying};
 ghost use Rattle.board.specs.View.{view};
-ghost use Rattle.outcomes.specs.Outcomes.{Flagged};
+ghost use Rattle.outcomes.specs.Outcomes.{answer_of, board_left};
 ghost use Rattle.requests.specs.Requests.{asked};
 ghost use Rattle.admit.specs.Admits.{admit_earlier, Admits};
 
-use board::{Answer, Board, Duty, Serial};
-use outcomes::Outcome;
+use board::{Board, Duty, Refusal, Serial};
+use outcomes::Accepted;
 use requests::RequestAdmit;
 
 // The duty asked for, with the serial.
@@ -30,41 +31,29 @@ fn duty_asked(q: RequestAdmit, serial: Serial) -> Duty
     }
 }
 
-// 19, 9, 10, 11, 7, 21, 16, 17, or 0 where none of these applies.
-#[tactic(auto, using(crate::proofs::Refusing::answers_17, crate::proofs::Refusing::answers_0))]
-fn refusal(b: Board, room: usize, q: RequestAdmit) -> u8
-    ensures { Answers (admit_earlier b room q) result }
+// What is tested before the board after is judged: 19, 9, 10, 11, 7, 21, 16, 17.
+#[tactic(auto, using(crate::proofs::Refusing::not_ready, crate::proofs::Refusing::answers_11))]
+fn allowed(b: &Board, room: usize, q: RequestAdmit) -> Result<(), Refusal>
+    ensures { Answers (admit_earlier b.now room q) (number_answered result) }
 {
-    if !values::is_good(b) {
-        return Answer::BROKEN;
+    outcomes::ready(b, room, q.clock)?;
+    if !requests::doing_fits(b.counts, q.doer, q.action, q.first, q.second) {
+        return Err(Refusal::Request);
     }
-    if room < Board::DUTIES {
-        return Answer::LIST;
-    }
-    if q.clock < b.clock {
-        return Answer::CLOCK;
-    }
-    let counts = b.counts;
-    if !requests::doing_fits(counts, q.doer, q.action, q.first, q.second) {
-        return Answer::REQUEST;
-    }
-    let next = b.next;
-    let d = duty_asked(q, next);
+    let d = duty_asked(q, b.next);
     if !windows::window_fits(d) {
-        return Answer::WINDOW;
+        return Err(Refusal::Window);
     }
-    let over = windows::is_over(q.clock, d);
-    let full = counts.duties as usize == Board::DUTIES;
-    if over {
-        return Answer::OVER;
+    if windows::is_over(q.clock, d) {
+        return Err(Refusal::Over);
     }
-    if full {
-        return Answer::FULL;
+    if b.duties().len() == Board::DUTIES {
+        return Err(Refusal::Full);
     }
-    if next.0 == Board::NEXT {
-        return Answer::SPENT;
+    if b.next.0 == Board::NEXT {
+        return Err(Refusal::Spent);
     }
-    Answer::DONE
+    Ok(())
 }
 
 // The board with the duty asked for added under the next serial, at the call's clock.
@@ -86,14 +75,11 @@ fn with_duty(b: Board, q: RequestAdmit) -> Board
 }
 
 // Admit: 19, 9, 10, 11, 7, 21, 16, 17, 8.
-pub fn admit(b: Board, list: &mut [u32], q: RequestAdmit) -> Outcome
-    ensures { Admits b list.old q result.answer result.board list.new × Flagged result }
+#[tactic(auto, using(crate::proofs::Admitting::refused_admits))]
+pub fn admit(b: Board, list: &mut [u32], q: RequestAdmit) -> Result<Accepted, Refusal>
+    ensures { Admits b list.old q (answer_of result) (board_left b result) list.new }
 {
-    let number = refusal(b, list.len(), q);
-    if number != Answer::DONE {
-        return outcomes::refused(b, number);
-    }
+    allowed(&b, list.len(), q)?;
     let after = with_duty(b, q);
-    let serial = b.next;
-    outcomes::judged(b, after, serial, list)
+    outcomes::judged(after, b.next, list)
 }

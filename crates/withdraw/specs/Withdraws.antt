@@ -1,16 +1,15 @@
 -- What withdraw promises, for every board value, lent list and request.
-use Rattle.std.specs.Prelude.{◌≡◌, false, List, [], ◌∷◌, ◌++◌, ℕ, ◌<◌, length}
+use Rattle.std.specs.Prelude.{List, [], ◌∷◌, ◌++◌, ℕ, length}
 use Rattle.board.specs.declared.Answer.{Answer}
 use Rattle.board.specs.declared.Board.{Board}
 use Rattle.board.specs.After.{withdrawn}
 use Rattle.board.specs.Answers.{Check, check}
 use Rattle.board.specs.Called.{Called}
-use Rattle.board.specs.Good.{good}
 use Rattle.board.specs.Green.{Red}
-use Rattle.board.specs.Limits.{max_duties}
 use Rattle.board.specs.Numbers as answer
 use Rattle.board.specs.Open.{NotOpen}
 use Rattle.board.specs.View.{View, view}
+use Rattle.outcomes.specs.Outcomes.{ready_checks}
 use Rattle.requests.specs.declared.RequestWithdraw.{RequestWithdraw}
 
 -- the board says this after an accepted withdrawal: the duty is removed
@@ -20,11 +19,7 @@ after_withdraw b q = withdrawn (view b) q.clock q.serial.0
 -- 19, 9, 10, 12
 abbrev pub withdraw_earlier : Board → ℕ → RequestWithdraw → List Check
 withdraw_earlier b room q =
-    check answer.broken (good b ≡ false)
-    ∷ check answer.list (room < max_duties)
-    ∷ check answer.clock (q.clock < b.clock)
-    ∷ check answer.not_open (NotOpen (view b) q.serial.0)
-    ∷ []
+    ready_checks b room q.clock ++ (check answer.not_open (NotOpen (view b) q.serial.0) ∷ [])
 
 -- Withdraw: 19, 9, 10, 12, 8.
 abbrev pub withdraw_checks : Board → ℕ → RequestWithdraw → List Check

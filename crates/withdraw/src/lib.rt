@@ -2,44 +2,33 @@
 #![tactic(auto)]
 
 ghost use Rattle.board.specs.Answers.{Answers};
-ghost use Rattle.outcomes.specs.Outcomes.{Flagged};
+ghost use Rattle.board.specs.Refusals.{number_answered};
+ghost use Rattle.outcomes.specs.Outcomes.{answer_of, board_left};
 ghost use Rattle.withdraw.specs.Withdraws.{withdraw_earlier, Withdraws};
 
-use board::{Answer, Board, Serial};
-use outcomes::Outcome;
+use board::{Board, Refusal, Serial};
+use outcomes::Accepted;
 use requests::RequestWithdraw;
 
-// 19, 9, 10, 12, or 0 where none of these applies.
-fn refusal(b: Board, room: usize, q: RequestWithdraw) -> u8
-    ensures { Answers (withdraw_earlier b room q) result }
+// What is tested before the board after is judged: 19, 9, 10, 12.
+#[tactic(auto, using(crate::proofs::Withdrawing::not_ready))]
+fn allowed(b: &Board, room: usize, q: RequestWithdraw) -> Result<(), Refusal>
+    ensures { Answers (withdraw_earlier b.now room q) (number_answered result) }
 {
-    if !values::is_good(b) {
-        return Answer::BROKEN;
-    }
-    if room < Board::DUTIES {
-        return Answer::LIST;
-    }
-    if q.clock < b.clock {
-        return Answer::CLOCK;
-    }
-    let serial = q.serial;
-    let found = pool::with_serial(b.duties(), serial);
-    let Some(_) = found else {
-        return Answer::NOT_OPEN;
+    outcomes::ready(b, room, q.clock)?;
+    let Some(_) = pool::with_serial(b.duties(), q.serial) else {
+        return Err(Refusal::NotOpen);
     };
-    Answer::DONE
+    Ok(())
 }
 
 // Withdraw: 19, 9, 10, 12, 8.
-pub fn withdraw(b: Board, list: &mut [u32], q: RequestWithdraw) -> Outcome
-    ensures { Withdraws b list.old q result.answer result.board list.new × Flagged result }
+#[tactic(auto, using(crate::proofs::Withdrawing::refused_withdraws))]
+pub fn withdraw(b: Board, list: &mut [u32], q: RequestWithdraw) -> Result<Accepted, Refusal>
+    ensures { Withdraws b list.old q (answer_of result) (board_left b result) list.new }
 {
-    let number = refusal(b, list.len(), q);
-    if number != Answer::DONE {
-        return outcomes::refused(b, number);
-    }
-    let serial = q.serial;
-    let after = after::withdrawn(b, q.clock, serial);
+    allowed(&b, list.len(), q)?;
+    let after = after::withdrawn(b, q.clock, q.serial);
     let none = Serial(0);
-    outcomes::judged(b, after, none, list)
+    outcomes::judged(after, none, list)
 }
