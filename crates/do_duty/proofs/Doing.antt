@@ -13,36 +13,38 @@ use Rattle.orders.specs.Needs.{met}
 use Rattle.orders.proofs.Build.{same_serial}
 use Rattle.orders.proofs.Lists.{any_true, any_mem}
 use Rattle.orders.proofs.Tests.{is_true, clash, and_true}
-use Rattle.board.specs.declared.Answer.{Answer}
 use Rattle.board.specs.declared.Board.{Board}
 use Rattle.board.specs.declared.Duty.{Duty}
+use Rattle.board.specs.declared.Refusal.{Refusal}
 use Rattle.board.specs.After.{acted, withdrawn}
 use Rattle.board.specs.Answers.{Check, Answers, done_answer, NoneApplies}
 use Rattle.board.specs.Filler.{Sized}
 use Rattle.board.specs.Good.{good, what_fits}
 use Rattle.board.specs.Green.{world_of, permitted_now}
+use Rattle.board.specs.Limits.{max_duties}
 use Rattle.board.specs.Numbers as answer
 use Rattle.board.specs.Open.{OpenWith}
 use Rattle.board.specs.Permitted.{held_in, asked_for, needs}
+use Rattle.board.specs.Refusals.{number_of, refused_answer}
 use Rattle.board.specs.Saying.{board_saying}
+use Rattle.board.specs.Told.{Told}
 use Rattle.board.specs.View.{View, view}
-use Rattle.board.specs.Windows.{wholly_before}
+use Rattle.board.specs.Windows.{wholly_before, in_window}
 use Rattle.board.proofs.AnswersLaws.{done_none, refused_first, then_second, never_answered}
 use Rattle.board.proofs.GoodLaws.{good→records, good→filler, records→range}
 use Rattle.board.proofs.PoolLaws.{duties_pool}
+use Rattle.board.proofs.RefusalLaws.{refusal_numbered, plainly_refused}
 use Rattle.board.proofs.SayingLaws.{view_fits, view_saying, saying_sized, saying_good}
 use Rattle.board.proofs.ToldLaws.{untouched}
 use Rattle.permitted.proofs.Laws.{permitted_now_lem}
 use Rattle.after.specs.Boards.{acted_board, did_board}
 use Rattle.after.proofs.AfterLaws.{acted_is, withdrawn_is}
 use Rattle.after.proofs.FitsLaws.{withdrawn_fits}
-use Rattle.outcomes.specs.declared.Outcome.{Outcome}
-use Rattle.outcomes.specs.Outcomes.{Flagged, refused_with}
-use Rattle.outcomes.proofs.Judging.{refused_flagged}
+use Rattle.outcomes.specs.Outcomes.{ready_checks}
 use Rattle.pool.proofs.FoundLaws.{FoundOpen}
 use Rattle.requests.specs.declared.RequestDo.{RequestDo}
 use Rattle.do_duty.specs.Does.{HeldBack, after_do, do_checks, Does}
-use Rattle.do_duty.specs.Inside.{board_checks, time_checks, duty_checks}
+use Rattle.do_duty.specs.Inside.{time_checks, duty_checks}
 
 -- the checks of the duty that is named: 13, 14, 15
 abbrev named_checks : Board → RequestDo → List Check
@@ -52,43 +54,52 @@ named_checks b q = drop 3 (do_checks b q)
 
 module _ (b : Board) (q : RequestDo) where
   pub refused_does :
-      (r : Outcome) (number : ℕ) → r ≡ refused_with b number → Answers (do_checks b q) number
-      → (number ≡ answer.done → ⊥) → Does b q r.answer r.board × Flagged r
-  refused_does r number is a d =
-      rw is (
-        record {
-          number = a;
-          accepted = λ e. absurd (d e);
-          refused = λ e. (refl, refl);
-          told =
-              untouched (after_do b q) [] number
-              (never_answered answer.red (do_checks b q) number (λ e. omega arith) refl a);
-        },
-        refused_flagged [] b (after_do b q) 0 [] number d,
-      )
+      (e : Refusal) → Answers (do_checks b q) (number_of e) → Does b q (refused_answer e) b
+  refused_does e a =
+      let not_red = never_answered answer.red (do_checks b q) (number_of e) (λ d. omega arith) refl a in
+      record {
+        number = a;
+        accepted = λ d. absurd (refusal_numbered e d);
+        refused = λ f. (refl, refl);
+        told =
+            subst (Told (after_do b q) [] []) (sym (plainly_refused e not_red))
+            (untouched (after_do b q) [] (number_of e) not_red);
+      }
 
-  -- 19 and 10, by the test whether the board is good
-  module _ (whole : Bool) (tested : whole ≡ good b) (number : ℕ)
-      (answers : Answers (board_checks whole b.clock q.clock) number) where
-    abbrev first : List Check
-    first = board_checks (good b) b.clock q.clock
+  -- 19 and 10
+  pub first_answers :
+      (e : Refusal) → Answers (ready_checks b max_duties q.clock) (number_of e)
+      → Answers (do_checks b q) (number_of e)
+  first_answers e (inl broken) = inl broken
+  first_answers e (inr (whole, inl (short, is))) = absurd (omega arith)
+  first_answers e (inr (whole, inr (long, inl late))) = inr (whole, inl late)
+  first_answers e (inr (whole, inr (long, inr (due, done)))) = absurd (refusal_numbered e done)
 
-    first_answers : Answers first number
-    first_answers = subst (λ (w : Bool). Answers (board_checks w b.clock q.clock) number) tested answers
+  -- past 19 and 10
+  module _ (past : Answers (ready_checks b max_duties q.clock) answer.done) where
+    none : NoneApplies (ready_checks b max_duties q.clock)
+    none = done_none (ready_checks b max_duties q.clock) refl past
 
-    pub board_answers : (number ≡ answer.done → ⊥) → Answers (do_checks b q) number
-    board_answers d = refused_first first (drop 2 (do_checks b q)) number d first_answers
+    pub good_board : good b ≡ true
+    good_board = is_true (good b) none.0
 
-    -- past 19 and 10
-    module _ (passes : number ≡ answer.done) where
-      none : NoneApplies first
-      none = done_none first refl (subst (Answers first) passes first_answers)
+    pub past_board : (n : ℕ) → Answers (drop 2 (do_checks b q)) n → Answers (do_checks b q) n
+    past_board n a = inr (none.0, inr (none.1.1.0, a))
 
-      pub good_board : good b ≡ true
-      good_board = is_true (good b) none.0
+-- ---- the windows
 
-      pub past_board : (n : ℕ) → Answers (drop 2 (do_checks b q)) n → Answers (do_checks b q) n
-      past_board n a = then_second first (drop 2 (do_checks b q)) n none a
+module _ (duties : List Duty) (d : Duty) (clock : ℕ) where
+  pub answers_13 : in_window clock d ≡ false → Answers (time_checks duties d clock) answer.outside
+  answers_13 off = inl (off, refl)
+
+  module _ (inside : in_window clock d ≡ true) where
+    pub answers_14 :
+        any (λ y. wholly_before y d) duties ≡ true → Answers (time_checks duties d clock) answer.held_back
+    answers_14 on = inr (λ f. clash inside f, inl (on, refl))
+
+    pub in_time :
+        any (λ y. wholly_before y d) duties ≡ false → Answers (time_checks duties d clock) answer.done
+    in_time off = inr (λ f. clash inside f, inr (λ t. clash t off, refl))
 
 -- ---- the duty was found
 
@@ -180,16 +191,13 @@ module _ (b : Board) (is_good : good b ≡ true) (q : RequestDo) (d : Duty)
         ∙ ap board_saying did_is
 
     pub done_does :
-        (a : Answer) (next : Board) → a ≡ done_answer 0
-        → next ≡ did_board b q.clock q.serial.0 d.what → Answers (do_checks b q) answer.done
-        → Does b q a next × Flagged (record { answer = a; accepted = true; board = next })
-    done_does a next is made answers =
-        rw (is, made ∙ done_board) (
-          record {
-            number = answers;
-            accepted = λ k. (refl, refl);
-            refused = λ k. absurd (k refl);
-            told = untouched (after_do b q) [] answer.done (λ k. omega arith);
-          },
-          record { says = refl },
-        )
+        (next : Board) → next ≡ did_board b q.clock q.serial.0 d.what → Answers (do_checks b q) answer.done
+        → Does b q (done_answer 0) next
+    done_does next made answers =
+        rw (made ∙ done_board)
+        (record {
+          number = answers;
+          accepted = λ k. (refl, refl);
+          refused = λ k. absurd (k refl);
+          told = untouched (after_do b q) [] answer.done (λ k. omega arith);
+        })

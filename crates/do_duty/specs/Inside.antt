@@ -1,6 +1,5 @@
--- The checks of do as the code makes them: those before the duty is looked for, and those of the duty d
--- that was found. No promise of the call rests on these words.
-use Rattle.std.specs.Prelude.{◌≡◌, Bool, true, false, List, [], ◌∷◌, ◌++◌, ℕ, ◌<◌}
+-- The checks of do as the code makes them, of the duty d that was found. No promise of the call rests on these words.
+use Rattle.std.specs.Prelude.{◌≡◌, true, false, List, [], ◌∷◌, ◌++◌, ℕ}
 use Rattle.orders.specs.Lists.{any}
 use Rattle.board.specs.declared.Board.{Board}
 use Rattle.board.specs.declared.Duty.{Duty}
@@ -9,11 +8,6 @@ use Rattle.board.specs.Green.{permitted_now}
 use Rattle.board.specs.Numbers as answer
 use Rattle.board.specs.View.{view}
 use Rattle.board.specs.Windows.{wholly_before, in_window}
-
--- 19 and 10: whether the board is good, and the least clock
-abbrev pub board_checks : Bool → ℕ → ℕ → List Check
-board_checks whole least clock =
-    check answer.broken (whole ≡ false) ∷ check answer.clock (clock < least) ∷ []
 
 -- 13 and 14, where these duties are open
 abbrev pub time_checks : List Duty → Duty → ℕ → List Check
