@@ -44,10 +44,12 @@ fn allowed(b: &Board, room: usize, q: RequestAdmit) -> Result<(), Refusal>
     if !windows::window_fits(d) {
         return Err(Refusal::Window);
     }
-    if windows::is_over(q.clock, d) {
+    let over = windows::is_over(q.clock, d);
+    let full = b.duties().len() == Board::DUTIES;
+    if over {
         return Err(Refusal::Over);
     }
-    if b.duties().len() == Board::DUTIES {
+    if full {
         return Err(Refusal::Full);
     }
     if b.next.0 == Board::NEXT {

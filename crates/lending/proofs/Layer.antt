@@ -58,10 +58,10 @@ use Rattle.board.specs.contracts.Answer as An
 use Rattle.board.proofs.Answer.TheLaws as An'
 use Rattle.board.specs.contracts.Board as B
 use Rattle.board.proofs.Board.TheLaws as B'
-use Rattle.outcomes.specs.declared.Outcome.{Outcome}
-use Rattle.outcomes.specs.Outcomes.{Flagged}
-use Rattle.outcomes.specs.contracts.Outcome as O
-use Rattle.outcomes.proofs.Outcome.TheLaws as O'
+use Rattle.lending.specs.declared.Outcome.{Outcome}
+use Rattle.lending.specs.Flagged.{Flagged}
+use Rattle.lending.specs.contracts.Outcome as O
+use Rattle.lending.proofs.Outcome.TheLaws as O'
 use Rattle.lending.proofs.Steps.{board_val, answer_val, outcome_val, IsBoard, IsAnswer, IsOutcome}
 use Rattle.lending.proofs.Steps.{is_answer, is_board, not_done, board_ref, entry_ref, list_ref}
 use Rattle.lending.proofs.Steps.{Came, stacked, borrowed, opened, board_typed}

@@ -46,10 +46,10 @@ use Rattle.board.specs.contracts.Answer as An
 use Rattle.board.proofs.Answer.TheLaws as An'
 use Rattle.board.specs.contracts.Board as B
 use Rattle.board.proofs.Board.TheLaws as B'
-use Rattle.outcomes.specs.declared.Outcome.{Outcome}
-use Rattle.outcomes.specs.Outcomes.{Flagged}
-use Rattle.outcomes.specs.contracts.Outcome as O
-use Rattle.outcomes.proofs.Outcome.TheLaws as O'
+use Rattle.lending.specs.declared.Outcome.{Outcome}
+use Rattle.lending.specs.Flagged.{Flagged}
+use Rattle.lending.specs.contracts.Outcome as O
+use Rattle.lending.proofs.Outcome.TheLaws as O'
 
 -- ---- machine values, and what is known of them
 

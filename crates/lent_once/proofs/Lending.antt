@@ -31,9 +31,9 @@ use Rattle.board.proofs.Answer.TheLaws as An'
 use Rattle.board.specs.contracts.Board as B
 use Rattle.board.proofs.Board.TheLaws as B'
 use Rattle.lending.proofs.Steps.{board_val, IsBoard, has}
-use Rattle.lent_once.specs.declared.Left.{Left}
-use Rattle.lent_once.specs.contracts.Left as L
-use Rattle.lent_once.proofs.Left.TheLaws as L'
+use Rattle.lending.specs.declared.Left.{Left}
+use Rattle.lending.specs.contracts.Left as L
+use Rattle.lending.proofs.Left.TheLaws as L'
 
 abbrev pub left_val : Left → Val
 left_val = LL.val L.the_type L'.the_laws

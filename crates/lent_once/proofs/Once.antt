@@ -55,8 +55,8 @@ use Rattle.board.proofs.Board.TheLaws as B'
 use Rattle.lending.proofs.Layer.{Call, Q, ask_val, lent_ended, lent_clauses}
 use Rattle.lending.proofs.Steps.{board_val, IsBoard, entry_ref, list_ref, board_typed, answer_typed, at_local}
 use Rattle.lending.proofs.Steps.{at_field, sets, has, sinks, leaves}
-use Rattle.lent_once.specs.contracts.Left as L
-use Rattle.lent_once.proofs.Left.TheLaws as L'
+use Rattle.lending.specs.contracts.Left as L
+use Rattle.lending.proofs.Left.TheLaws as L'
 use Rattle.lent_once.proofs.Lending.{left, left_val, made, left_typed, at, lends_board, takes_back}
 
 module _ (c : Call) where

@@ -2,65 +2,66 @@
 // calls by value, with their promises.
 #![tactic(auto)]
 
+ghost use Rattle.board.specs.Answers.{done_answer};
+ghost use Rattle.board.specs.Refusals.{answered, plainly_done};
 ghost use Rattle.act.specs.ActsNow.{ActsNow};
 ghost use Rattle.admit.specs.Admits.{Admits};
 ghost use Rattle.do_duty.specs.Does.{Does};
 ghost use Rattle.open.specs.Opens.{Opens};
 ghost use Rattle.withdraw.specs.Withdraws.{Withdraws};
 
-use board::{Answer, Board};
+use board::{Board, Refusal, Serial};
 use requests::{RequestAct, RequestAdmit, RequestDo, RequestWithdraw};
 
 // Open a board file into the board: what the file says, or the smallest board where it is refused.
-pub fn open(b: &mut Board, s: &[u8], list: &mut [u32]) -> Answer
+pub fn open(b: &mut Board, s: &[u8], list: &mut [u32]) -> Result<(), Refusal>
     ensures { Opens s.now list.old list.new
-        (record { answer = result; board = b.new }) }
+        (record { answer = answered plainly_done result; board = b.new }) }
 {
-    let opened = open::open(s, list);
-    *b = opened.board;
-    opened.answer
+    match open::open(s, list) {
+        Ok(board) => {
+            *b = board;
+            Ok(())
+        }
+        Err(refusal) => {
+            *b = Board::smallest();
+            Err(refusal)
+        }
+    }
 }
 
-// Admit a duty.
-pub fn admit(b: &mut Board, list: &mut [u32], q: RequestAdmit) -> Answer
-    ensures { Admits b.old list.old q result b.new list.new }
+// Admit a duty, and answer its serial.
+pub fn admit(b: &mut Board, list: &mut [u32], q: RequestAdmit) -> Result<Serial, Refusal>
+    ensures { Admits b.old list.old q (answered (λ s. done_answer s.0) result) b.new list.new }
 {
-    let admitted = admit::admit(*b, list, q);
-    if admitted.accepted {
-        *b = admitted.board;
-    }
-    admitted.answer
+    let accepted = admit::admit(*b, list, q)?;
+    *b = accepted.board;
+    Ok(accepted.serial)
 }
 
 // Act now.
-pub fn act(b: &mut Board, list: &mut [u32], q: RequestAct) -> Answer
-    ensures { ActsNow b.old list.old q result b.new list.new }
+pub fn act(b: &mut Board, list: &mut [u32], q: RequestAct) -> Result<(), Refusal>
+    ensures { ActsNow b.old list.old q (answered plainly_done result) b.new list.new }
 {
-    let acted = act::act(*b, list, q);
-    if acted.accepted {
-        *b = acted.board;
-    }
-    acted.answer
+    let accepted = act::act(*b, list, q)?;
+    *b = accepted.board;
+    Ok(())
 }
 
 // Do an open duty.
-pub fn do_duty(b: &mut Board, q: RequestDo) -> Answer
-    ensures { Does b.old q result b.new }
+pub fn do_duty(b: &mut Board, q: RequestDo) -> Result<(), Refusal>
+    ensures { Does b.old q (answered plainly_done result) b.new }
 {
-    let done = do_duty::do_duty(*b, q);
-    if done.accepted {
-        *b = done.board;
-    }
-    done.answer
+    let accepted = do_duty::do_duty(*b, q)?;
+    *b = accepted.board;
+    Ok(())
 }
 
 // Withdraw a duty.
-pub fn withdraw(b: &mut Board, list: &mut [u32], q: RequestWithdraw) -> Answer
-    ensures { Withdraws b.old list.old q result b.new list.new }
+pub fn withdraw(b: &mut Board, list: &mut [u32], q: RequestWithdraw) -> Result<(), Refusal>
+    ensures { Withdraws b.old list.old q (answered plainly_done result) b.new list.new }
 {
-    let withdrawn = withdraw::withdraw(*b, list, q);
-    if withdrawn.accepted {
-        *b = withdrawn.board;
-    }
-    withdrawn.answer
+    let accepted = withdraw::withdraw(*b, list, q)?;
+    *b = accepted.board;
+    Ok(())
 }

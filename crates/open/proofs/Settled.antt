@@ -11,8 +11,7 @@ use Rattle.board.specs.Numbers as answer
 use Rattle.board.specs.Told.{OneOrder}
 use Rattle.board.proofs.AnswersLaws.{same_answer}
 use Rattle.board.proofs.ToldLaws.{same_told}
-use Rattle.open.specs.declared.Opened.{Opened}
-use Rattle.open.specs.Opens.{said, open_checks, Opens}
+use Rattle.open.specs.Opens.{Opened, said, open_checks, Opens}
 
 module _
     (s before after after' : List ℕ) (r r' : Opened) (p : Opens s before after r)

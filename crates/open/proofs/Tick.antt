@@ -23,8 +23,7 @@ use Rattle.board.proofs.GoodLaws.{good→records}
 use Rattle.board.proofs.GreenLaws.{green_not_red, red_not_green}
 use Rattle.file.specs.Reads.{read_checks, board_of}
 use Rattle.file.proofs.Accepted.{accepted_good}
-use Rattle.open.specs.declared.Opened.{Opened}
-use Rattle.open.specs.Opens.{said, open_checks, Opens}
+use Rattle.open.specs.Opens.{Opened, said, open_checks, Opens}
 use Rattle.open.proofs.Opening.{red_check}
 
 pub record Ticked (s : List ℕ) (room : ℕ) : Type 0 where

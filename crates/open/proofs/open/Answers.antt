@@ -1,26 +1,24 @@
--- `open::open` meets its contract: each answer is one of the four of proofs/Opening.antt. That the list has
--- room, and that check answers 0, is left to arithmetic: a test of something else is refused with the numbers
--- that show it.
+-- `open::open` meets its contract: a short list proves by itself; each other answer is one of proofs/Opening.antt.
+-- That the list has room is left to arithmetic: a test of something else is refused with the numbers that show it.
 use mathlib.Core.Path.{refl}
 use native.Mathlib.Omega.{arith}
-use Rattle.board.proofs.RefusalLaws.{refusal_numbered}
+use Rattle.std.proofs.lemmas.Result.{err_from_is_err_and}
 use Rattle.open.proofs.Opening.{not_read, opened_red, opened_green}
 use Rattle.open.proofs.open.Goals as goal
 
+pub returns-in_err-board : goal.returns-in_err-board
+returns-in_err-board c =
+    let p = err_from_is_err_and c.from_residual.result c.from_residual.ensures.1 in
+    rw (p.1, p.2) (not_read _ _ (omega arith) _ c.in_err-board.ensures.number)
+
+pub returns-in_err-check_good : goal.returns-in_err-check_good
+returns-in_err-check_good c =
+    let p = err_from_is_err_and c.from_residual-in_err-check_good.result c.from_residual-in_err-check_good.ensures.1 in
+    let read = c.in_ok-board.ensures in
+    rw (p.1, p.2)
+    (opened_red _ _ (omega arith) _ _ read.number (read.accepted refl) _ c.in_err-check_good.ensures)
+
 pub returns : goal.returns
 returns c =
-    let read = c.in-Ok.ensures in
-    opened_green _ _ (omega arith) _ _ c.check_good-answer.result c.check_good-answer.ensures read.number
-    (read.accepted refl) (omega arith)
-
-pub returns-in-Err : goal.returns-in-Err
-returns-in-Err c =
-    let read = c.in-Err.ensures in
-    rw (c.refused-in-Err.ensures, c.number.ensures)
-    (not_read _ _ (omega arith) _ read.number (refusal_numbered c.in-Err.refusal))
-
-pub returns-then-answer-ne-DONE : goal.returns-then-answer-ne-DONE
-returns-then-answer-ne-DONE c =
-    let read = c.in-Ok.ensures in
-    opened_red _ _ (omega arith) _ _ c.check_good-answer.result c.check_good-answer.ensures read.number
-    (read.accepted refl) c.if-answer-ne-DONE.true c.smallest-smallest.result c.smallest-smallest.ensures
+    let read = c.in_ok-board.ensures in
+    opened_green _ _ (omega arith) _ _ read.number (read.accepted refl) c.in_ok-check_good.ensures
