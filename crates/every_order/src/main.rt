@@ -55,13 +55,12 @@ fn ask<'a>(s: &[u8], list: &'a mut [u32]) -> Told<'a> {
         clock: 1,
         ..Board::smallest()
     };
-    let opened = lent_once::open(lent, s, list);
-    let (order, beyond) = list
-        .split_at_checked(opened.answer.length)
-        .unwrap_or((list, &[]));
+    let (opened, board) = lent_once::open(lent, s, list);
+    let answer = opened.map_or_else(Answer::from, |()| Answer::plain(Answer::DONE));
+    let (order, beyond) = list.split_at_checked(answer.length).unwrap_or((list, &[]));
     Told {
-        answer: opened.answer,
-        board: opened.board,
+        answer,
+        board,
         order,
         beyond,
     }

@@ -8,7 +8,7 @@ use Rattle.board.specs.Told.{OneOrder}
 use Rattle.line.specs.Line.{line_of}
 use Rattle.put.specs.Put.{Put}
 use Rattle.line.proofs.Settled.{same_line}
-use Rattle.open.specs.declared.Opened.{Opened}
+use Rattle.open.specs.Opens.{Opened}
 use Rattle.open.proofs.Settled.{same_board, same_opening}
 use Rattle.printed.specs.Printed.{Printed}
 

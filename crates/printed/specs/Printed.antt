@@ -4,7 +4,7 @@ use Rattle.board.specs.Limits.{max_duties}
 use Rattle.layout.specs.Layout.{longest}
 use Rattle.line.specs.Line.{line_of}
 use Rattle.put.specs.Put.{Put}
-use Rattle.open.specs.declared.Opened.{Opened}
+use Rattle.open.specs.Opens.{Opened}
 use Rattle.open.specs.Opens.{Opens}
 
 -- An input of more than 6,952 bytes is cut to 6,953 before it is judged.
