@@ -1,6 +1,2 @@
-pub mod Parts
-pub mod Scans
-pub mod Climbing
-pub mod ActionKeys
-pub mod Serials
+pub mod Neighbours
 pub mod Whole
