@@ -26,7 +26,7 @@ fn print_failing(rt: &impl Print, length: usize, list: &[u32]) -> io::Result<()>
 }
 
 // Print every order of a board, and how many there are.
-fn print_orders(rt: &impl Print, b: &Board) -> io::Result<()> {
+fn print_orders(rt: &impl Print, b: Board) -> io::Result<()> {
     let orders = show_rest(rt, b, b.duties().len(), Order::empty(), 0)?;
     print_count(rt, orders)
 }
@@ -36,11 +36,11 @@ fn show(rt: &impl Print, b: Board) -> io::Result<()> {
     let mut list = [0u32; Board::DUTIES];
     match plain::walk(b, &mut list) {
         Ok(()) => {
-            print_orders(rt, &b)?;
+            print_orders(rt, b)?;
             println!(rt; "yes {}", b.duties().len())
         }
         Err(Refusal::Red { length }) => {
-            print_orders(rt, &b)?;
+            print_orders(rt, b)?;
             print_failing(rt, length, &list)
         }
         Err(refusal) => println!(rt; "refused {}", refusal.number()),

@@ -55,7 +55,7 @@ fn with_order(rt: &impl Print, shown: u32, order: Order, permitted: bool) -> io:
 // were met by now, where so many were met before.
 pub(crate) fn show_rest(
     rt: &impl Print,
-    b: &Board,
+    b: Board,
     left: usize,
     done: Order,
     so_far: u32,
@@ -68,12 +68,12 @@ pub(crate) fn show_rest(
     for d in duties {
         if !pool::is_held_back(duties, *d) {
             let next = done.with(d.serial);
-            shown = if permitted::permitted(b, d.doer, d.what) {
-                let rest = after::did(*b, b.clock, d.serial, d.what);
-                show_rest(rt, &rest, left - 1, next, shown)?
+            if permitted::permitted(&b, d.doer, d.what) {
+                let rest = after::did(b, b.clock, d.serial, d.what);
+                shown = show_rest(rt, rest, left - 1, next, shown)?;
             } else {
-                with_order(rt, shown, next, false)?
-            };
+                shown = with_order(rt, shown, next, false)?;
+            }
         }
     }
     Ok(shown)
