@@ -1,29 +1,21 @@
--- What a record asks for, by its kind: one of the calls that `called` makes, or nothing of it.
-use mathlib.Core.Path.{◌≡◌, refl}
-use Prim.Native.Nat.{ℕ, zero, suc, ◌<◌}
-use native.Mathlib.Omega.{arith}
-use Rattle.board.specs.declared.Board.{Board}
-use Rattle.outcomes.specs.declared.Outcome.{Outcome}
+-- What a record asks for, by its kind, where its number is that of one.
+use mathlib.Core.Path.{◌≡◌, sym, ap, ◌∙◌}
+use Prim.Native.Nat.{ℕ}
+use lib.Dec.{eqb}
+use borrow.Author.Tests.{eqb-true, eqb-false}
+use Rattle.orders.proofs.Tests.{by_test}
+use Rattle.session.specs.declared.kind.Kind.{Kind}
+use Rattle.session.specs.Kinds.{number_of}
+use Rattle.session.proofs.Making.{kind_of, numbered}
 
-pub data Kind (n : ℕ) : Type 0 where
-  admits : n ≡ 0 → Kind n
-  acts : n ≡ 1 → Kind n
-  does : n ≡ 2 → Kind n
-  withdraws : n ≡ 3 → Kind n
-  checks : n ≡ 4 → Kind n
-  walks : n ≡ 6 → Kind n
-  none : 4 < n → (n ≡ 6 → ⊥) → Kind n
+pub data Numbered (n : ℕ) : Type 0 where
+  known : (kind : Kind) → n ≡ number_of kind → Numbered n
+  unknown : ((kind : Kind) → n ≡ number_of kind → ⊥) → Numbered n
 
-pub kind_of : (n : ℕ) → Kind n
-kind_of zero = admits refl
-kind_of (suc zero) = acts refl
-kind_of (suc (suc zero)) = does refl
-kind_of (suc (suc (suc zero))) = withdraws refl
-kind_of (suc (suc (suc (suc zero)))) = checks refl
-kind_of (suc (suc (suc (suc (suc zero))))) = none (omega arith) (λ e. omega arith)
-kind_of (suc (suc (suc (suc (suc (suc zero)))))) = walks refl
-kind_of (suc (suc (suc (suc (suc (suc (suc n))))))) = none (omega arith) (λ e. omega arith)
-
--- the board that an outcome leaves
-abbrev pub board_of_lem : Outcome → Board
-board_of_lem o = o.board
+-- each number is that of a kind or of none
+pub kind_or_none : (n : ℕ) → Numbered n
+kind_or_none n =
+    by_test
+    (eqb n (number_of (kind_of n)))
+    (λ t. known (kind_of n) (eqb-true n _ t))
+    (λ f. unknown (λ kind e. eqb-false n _ f (e ∙ ap number_of (sym (ap kind_of e ∙ numbered kind)))))

@@ -19,8 +19,7 @@ use Rattle.layout.specs.Layout.{header_size, longest}
 use Rattle.save.specs.Saves.{saved, save_checks, Saves}
 use Rattle.save.proofs.FileLaws.{saved_length, saved_fits}
 use Rattle.save.proofs.Settled.{same_save}
-use Rattle.open.specs.Opens.{Opened}
-use Rattle.open.specs.Opens.{Opens}
+use Rattle.open.specs.Opens.{Opened, Opens}
 use Rattle.open.proofs.Tick.{open_ticks}
 use Rattle.promises.specs.GoodAndGreen.{GoodAndGreen}
 use Rattle.promises.specs.Saved.{file_in}

@@ -3,8 +3,7 @@
 use Rattle.std.specs.Prelude.{◌≡◌, List, ℕ}
 use Rattle.board.specs.declared.Board.{Board}
 use Rattle.board.specs.Numbers as answer
-use Rattle.open.specs.Opens.{Opened}
-use Rattle.open.specs.Opens.{Opens}
+use Rattle.open.specs.Opens.{Opened, Opens}
 use Rattle.session.specs.Played.{file_bytes, records_of, Played}
 use Rattle.goes_on.specs.Asked.{EachIsCall}
 

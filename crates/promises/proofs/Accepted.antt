@@ -17,7 +17,7 @@ use Rattle.board.specs.declared.Board.{Board}
 use Rattle.board.specs.declared.Duty.{Duty}
 use Rattle.board.specs.declared.What.{What}
 use Rattle.board.specs.After.{with_serial, named, without_serial, withdrawn, did}
-use Rattle.board.specs.Answers.{Check, check}
+use Rattle.board.specs.Answers.{Check, NoneApplies}
 use Rattle.board.specs.Called.{Called}
 use Rattle.board.specs.Filler.{Sized}
 use Rattle.board.specs.Good.{what_fits}
@@ -26,7 +26,7 @@ use Rattle.board.specs.Numbers as answer
 use Rattle.board.specs.Permitted.{Holding, held_in, changed}
 use Rattle.board.specs.Sentences.{Change}
 use Rattle.board.specs.View.{View, view}
-use Rattle.board.proofs.AnswersLaws.{none_first, none_second}
+use Rattle.board.proofs.AnswersLaws.{Refusing, none_first, none_second}
 use Rattle.board.proofs.Changed.{after_is}
 use Rattle.board.proofs.GoodLaws.{records→range}
 use Rattle.board.proofs.GreenLaws.{green_not_red}
@@ -68,7 +68,7 @@ use Rattle.promises.specs.Calls.{
 }
 use Rattle.promises.specs.GoodAndGreen.{Whole}
 use Rattle.promises.specs.May.{MayAdmit, MayAct, MayDo, MayWithdraw}
-use Rattle.promises.proofs.AfterCalls.{after_fits}
+use Rattle.promises.proofs.AfterCalls.{red_check, after_fits}
 use Rattle.promises.proofs.AsksLaws.{asks_fit}
 use Rattle.promises.proofs.DidLaws.{finds}
 use Rattle.promises.proofs.Kept.{done→none}
@@ -215,8 +215,20 @@ module _
     untouched : (after ≡ before) × (r.length ≡ 0)
     untouched = c.told.otherwise (λ n. omega (arith, e, n))
 
-abbrev red_check : View → List Check
-red_check v = check answer.red (Red v) ∷ []
+-- and of a call that the verdict judges, no check before it applied, and it did not deny it
+module _
+    (earlier : List Check) {b : Board} {v : View} {serial : ℕ} {before after : List ℕ} {r : Answer}
+    {left : Board} (refuses : Refusing (earlier ++ red_check v))
+    (c : Called (earlier ++ red_check v) b v serial before after r left) (e : r.number ≡ answer.done)
+  where
+    none : NoneApplies (earlier ++ red_check v)
+    none = done→none (earlier ++ red_check v) b v serial before after r left refuses c e
+
+    past : NoneApplies earlier
+    past = none_first earlier (red_check v) none
+
+    not_red : Red v → ⊥
+    not_red = (none_second earlier (red_check v) none).0
 
 -- An accepted admission: the clock, the duty with the next serial, and nothing else.
 pub admit_accepted :
@@ -224,16 +236,14 @@ pub admit_accepted :
     → Admits b before q r left after → r.number ≡ answer.done → AdmitAccepted b before q r left after
 admit_accepted b size before after q r left k e =
     let earlier = admit_earlier b (length before) q in
-    let red = red_check (after_admit b q) in
-    let none = done→none (earlier ++ red) b (after_admit b q) b.next.0 before after r left refl k e in
-    let may = admit_passed b size (length before) q (none_first earlier red none) in
+    let may = admit_passed b size (length before) q (past earlier refl k e) in
     let whole : Whole b = record { sized = size; is_good = may.is_good } in
-    let fits = after_fits b whole (admit before q) none in
+    let fits = after_fits b whole (admit before q) (none earlier refl k e) in
     record {
       added = with_serial b.next.0 (asked q);
       may = may;
       adds = left_says k e fits (Adds (view b) q (with_serial b.next.0 (asked q))) (added_so b q);
-      green = left_green k e fits (none_second earlier red none).0;
+      green = left_green k e fits (not_red earlier refl k e);
       serial = (k.accepted e).1;
       list = untouched k e;
     }
@@ -244,18 +254,16 @@ pub act_accepted :
     → ActsNow b before q r left after → r.number ≡ answer.done → ActAccepted b before q r left after
 act_accepted b size before after q r left k e =
     let earlier = act_earlier b (length before) q in
-    let red = red_check (after_act b q) in
-    let none = done→none (earlier ++ red) b (after_act b q) 0 before after r left refl k e in
-    let may = act_passed b (length before) q (none_first earlier red none) in
+    let may = act_passed b (length before) q (past earlier refl k e) in
     let whole : Whole b = record { sized = size; is_good = may.is_good } in
-    let fits = after_fits b whole (act before q) none in
+    let fits = after_fits b whole (act before q) (none earlier refl k e) in
     record {
       what = what_now q;
       may = may;
       changes =
           left_says k e fits (Changes (view b) q.clock (what_now q))
           (acted_so b size (length before) q may);
-      green = left_green k e fits (none_second earlier red none).0;
+      green = left_green k e fits (not_red earlier refl k e);
       serial = (k.accepted e).1;
       list = untouched k e;
     }
@@ -284,17 +292,15 @@ pub withdraw_accepted :
     → WithdrawAccepted b before q r left after
 withdraw_accepted b size before after q r left k e =
     let earlier = withdraw_earlier b (length before) q in
-    let red = red_check (after_withdraw b q) in
-    let none = done→none (earlier ++ red) b (after_withdraw b q) 0 before after r left refl k e in
-    let (d, may) = withdraw_passed b (length before) q (none_first earlier red none) in
+    let (d, may) = withdraw_passed b (length before) q (past earlier refl k e) in
     let whole : Whole b = record { sized = size; is_good = may.is_good } in
-    let fits = after_fits b whole (withdraw before q) none in
+    let fits = after_fits b whole (withdraw before q) (none earlier refl k e) in
     record {
       duty = d;
       may = may;
       removes =
           left_says k e fits (Removes (view b) q.clock d) (withdrawn_so b (length before) q d may);
-      green = left_green k e fits (none_second earlier red none).0;
+      green = left_green k e fits (not_red earlier refl k e);
       serial = (k.accepted e).1;
       list = untouched k e;
     }

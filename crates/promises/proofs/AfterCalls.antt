@@ -58,7 +58,7 @@ whole_fits b w = view_fits b w.sized w.is_good
 
 -- ---- it keeps the rules and has room
 
-abbrev red_check : View → List Check
+abbrev pub red_check : View → List Check
 red_check v = check answer.red (Red v) ∷ []
 
 pub admit_fits :
@@ -66,7 +66,7 @@ pub admit_fits :
     → NoneApplies (admit_earlier b (length before) q) → ViewFits (after_admit b q)
 admit_fits b size before q none =
     let earlier = admit_earlier b (length before) q in
-    admitting.fits_after b size before q answer.done (then_second earlier [] answer.done none refl) refl
+    admitting.fits_after b before q size (then_second earlier [] answer.done none refl)
 
 -- what an accepted file says
 open_fits :

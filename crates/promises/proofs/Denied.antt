@@ -23,8 +23,7 @@ use Rattle.board.proofs.GoodLaws.{good→records}
 use Rattle.board.proofs.GreenLaws.{green_not_red, red_not_green}
 use Rattle.file.specs.Reads.{board_of}
 use Rattle.file.proofs.Accepted.{accepted_good}
-use Rattle.open.specs.Opens.{Opened}
-use Rattle.open.specs.Opens.{said, Opens}
+use Rattle.open.specs.Opens.{said, Opened, Opens}
 use Rattle.requests.specs.declared.RequestAct.{RequestAct}
 use Rattle.requests.specs.declared.RequestAdmit.{RequestAdmit}
 use Rattle.requests.specs.declared.RequestWithdraw.{RequestWithdraw}

@@ -22,8 +22,7 @@ use Rattle.file.proofs.Accepted.{accepted_sized, accepted_good}
 use Rattle.save.specs.Saves.{save_checks}
 use Rattle.verdict.specs.Checked.{check_checks}
 use Rattle.plain.specs.Walks.{walk_checks}
-use Rattle.open.specs.Opens.{Opened}
-use Rattle.open.specs.Opens.{said, open_checks, Opens}
+use Rattle.open.specs.Opens.{said, open_checks, Opened, Opens}
 use Rattle.open.proofs.Tick.{open_ticks}
 use Rattle.admit.specs.Admits.{after_admit, admit_checks}
 use Rattle.act.specs.ActsNow.{after_act, act_checks}

@@ -24,8 +24,7 @@ use Rattle.file.proofs.Accepted.{accepted_good}
 use Rattle.save.specs.Saves.{saved, save_checks, Saves}
 use Rattle.read_back.proofs.ReadBack.{file_read, board_back}
 use Rattle.read_back.proofs.BytesBack.{bytes_back}
-use Rattle.open.specs.Opens.{Opened}
-use Rattle.open.specs.Opens.{said, Opens}
+use Rattle.open.specs.Opens.{said, Opened, Opens}
 use Rattle.open.proofs.Tick.{open_ticks}
 use Rattle.promises.specs.Calls.{Made, Calls}
 use Rattle.promises.specs.Judged.{Judged}

@@ -18,8 +18,7 @@ use Rattle.board.specs.View.{View, view}
 use Rattle.board.specs.Answers.{NoneApplies}
 use Rattle.board.proofs.GoodLaws.{good→records, records→range}
 use Rattle.board.proofs.SayingLaws.{view_saying}
-use Rattle.open.specs.Opens.{Opened}
-use Rattle.open.specs.Opens.{Opens}
+use Rattle.open.specs.Opens.{Opened, Opens}
 use Rattle.requests.specs.declared.RequestAdmit.{RequestAdmit}
 use Rattle.admit.specs.Admits.{after_admit, admit_checks, Admits}
 use Rattle.promises.specs.Calls.{

@@ -13,8 +13,7 @@ use Rattle.board.specs.View.{View, view}
 use Rattle.board.proofs.GreenLaws.{empty_green}
 use Rattle.board.proofs.SayingLaws.{ViewFits, saying_sized, saying_good, view_saying}
 use Rattle.board.proofs.ViewLaws.{smallest_good}
-use Rattle.open.specs.Opens.{Opened}
-use Rattle.open.specs.Opens.{Opens}
+use Rattle.open.specs.Opens.{Opened, Opens}
 use Rattle.promises.specs.Calls.{Call, open_file, Keeps, Made, Calls}
 use Rattle.promises.specs.GoodAndGreen.{Whole, GoodAndGreen}
 use Rattle.promises.proofs.Kept.{after_call, of_refused, kept}

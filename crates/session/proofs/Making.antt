@@ -1,141 +1,82 @@
--- The call that a record asks for keeps its promise, and a record asks for one call alone.
-use mathlib.Core.Path.{◌≡◌, sym, subst, ◌∙◌}
+-- A record asks for one call alone, since no two kinds have one number: so it does what its kind asks for
+-- once that call keeps its promise.
+use mathlib.Core.Path.{◌≡◌, refl, sym, ap, subst, ◌∙◌}
 use mathlib.Core.List.{List}
 use Prim.Native.Nat.{ℕ}
-use native.Mathlib.Omega.{arith}
-use Rattle.board.specs.declared.Answer.{Answer}
+use lib.Dec.{eqb}
+use mathlib.Core.Bool.{cond}
+use Rattle.std.specs.Prelude.{Result}
 use Rattle.board.specs.declared.Board.{Board}
-use Rattle.board.specs.Numbers as answer
-use Rattle.verdict.specs.Checked.{Checked}
+use Rattle.board.specs.declared.Refusal.{Refusal}
 use Rattle.requests.specs.declared.RequestAct.{RequestAct}
 use Rattle.requests.specs.declared.RequestAdmit.{RequestAdmit}
 use Rattle.requests.specs.declared.RequestDo.{RequestDo}
-use Rattle.requests.specs.declared.RequestWithdraw.{RequestWithdraw}
-use Rattle.outcomes.specs.declared.Outcome.{Outcome}
-use Rattle.outcomes.specs.Outcomes.{Flagged, refused_with}
-use Rattle.plain.specs.Walks.{Walks}
+use Rattle.outcomes.specs.declared.Accepted.{Accepted}
+use Rattle.outcomes.specs.Outcomes.{answer_of, board_left}
 use Rattle.admit.specs.Admits.{Admits}
 use Rattle.act.specs.ActsNow.{ActsNow}
 use Rattle.do_duty.specs.Does.{Does}
-use Rattle.withdraw.specs.Withdraws.{Withdraws}
+use Rattle.session.specs.declared.kind.Kind.{Kind}
+use Rattle.session.specs.declared.kind.Kind.TheVariants.{Admit, Act, Do, Withdraw, Check, Save, Walk, Poke}
 use Rattle.session.specs.declared.Record.{Record}
-use Rattle.session.specs.Sessions.{request_admit, request_act, request_do, request_withdraw}
-use Rattle.session.specs.Sessions.{outcome_of, Makes}
+use Rattle.session.specs.Kinds.{number_of}
+use Rattle.session.specs.Sessions.{request_admit, request_act, request_do, MakesAs, Makes}
 
-module _ (b : Board) (r : Record) (before after : List ℕ) (o : Outcome) where
-  pub made_admit :
-      (q : RequestAdmit) → r.kind ≡ 0 → q ≡ request_admit r
-      → Admits b before q o.answer o.board after × Flagged o → Makes b r before o after
-  made_admit q is asks kept =
+-- the kind of a number, where one has it
+abbrev pub kind_of : ℕ → Kind
+kind_of n =
+    cond (eqb n 0) Admit
+    (cond (eqb n 1) Act
+    (cond (eqb n 2) Do
+    (cond (eqb n 3) Withdraw
+    (cond (eqb n 4) Check
+    (cond (eqb n 5) Save
+    (cond (eqb n 6) Walk Poke))))))
+
+pub numbered : (kind : Kind) → kind_of (number_of kind) ≡ kind
+numbered Admit = refl
+numbered Act = refl
+numbered Do = refl
+numbered Withdraw = refl
+numbered Check = refl
+numbered Save = refl
+numbered Walk = refl
+numbered Poke = refl
+
+-- two kinds of one number are one
+pub same_kind : (kind other : Kind) → number_of kind ≡ number_of other → kind ≡ other
+same_kind kind other e = sym (numbered kind) ∙ ap kind_of e ∙ numbered other
+
+module _ (b : Board) (r : Record) (before after : List ℕ) (result : Result Accepted Refusal) where
+  -- the record is of this kind
+  pub made :
+      (kind : Kind) → number_of kind ≡ r.kind → MakesAs kind b r before result after
+      → Makes b r before result after
+  made kind is kept =
       record {
-        admits = λ _.
-            subst (λ (q : RequestAdmit). Admits b before q o.answer o.board after × Flagged o)
-            asks kept;
-        acts = λ e. absurd (omega arith);
-        does = λ e. absurd (omega arith);
-        withdraws = λ e. absurd (omega arith);
-        checks = λ e. absurd (omega arith);
-        walks = λ e. absurd (omega arith);
-        none = λ e _. absurd (omega arith);
+        known = λ other e.
+            subst (λ (k : Kind). MakesAs k b r before result after) (same_kind kind other (is ∙ e)) kept;
+        unknown = λ none. absurd (none kind (sym is));
       }
 
-  pub made_act :
-      (q : RequestAct) → r.kind ≡ 1 → q ≡ request_act r
-      → ActsNow b before q o.answer o.board after × Flagged o → Makes b r before o after
-  made_act q is asks kept =
-      record {
-        admits = λ e. absurd (omega arith);
-        acts = λ _.
-            subst (λ (q : RequestAct). ActsNow b before q o.answer o.board after × Flagged o) asks kept;
-        does = λ e. absurd (omega arith);
-        withdraws = λ e. absurd (omega arith);
-        checks = λ e. absurd (omega arith);
-        walks = λ e. absurd (omega arith);
-        none = λ e _. absurd (omega arith);
-      }
+  module _ (kind : Kind) (is : number_of kind ≡ r.kind) where
+    pub made_admit :
+        (q : RequestAdmit) → kind ≡ Admit → q ≡ request_admit r
+        → Admits b before q (answer_of result) (board_left b result) after → Makes b r before result after
+    made_admit q e asks kept =
+        let P : RequestAdmit → Type 0 = λ q. Admits b before q (answer_of result) (board_left b result) after in
+        made Admit (ap number_of (sym e) ∙ is) (subst P asks kept)
 
-  pub made_do :
-      (q : RequestDo) → r.kind ≡ 2 → q ≡ request_do r → Does b q o.answer o.board × Flagged o
-      → after ≡ before → Makes b r before o after
-  made_do q is asks kept same =
-      record {
-        admits = λ e. absurd (omega arith);
-        acts = λ e. absurd (omega arith);
-        does = λ _. (
-          subst (λ (q : RequestDo). Does b q o.answer o.board × Flagged o) asks kept,
-          same,
-        );
-        withdraws = λ e. absurd (omega arith);
-        checks = λ e. absurd (omega arith);
-        walks = λ e. absurd (omega arith);
-        none = λ e _. absurd (omega arith);
-      }
+    pub made_act :
+        (q : RequestAct) → kind ≡ Act → q ≡ request_act r
+        → ActsNow b before q (answer_of result) (board_left b result) after → Makes b r before result after
+    made_act q e asks kept =
+        let P : RequestAct → Type 0 = λ q. ActsNow b before q (answer_of result) (board_left b result) after in
+        made Act (ap number_of (sym e) ∙ is) (subst P asks kept)
 
-  pub made_withdraw :
-      (q : RequestWithdraw) → r.kind ≡ 3 → q ≡ request_withdraw r
-      → Withdraws b before q o.answer o.board after × Flagged o → Makes b r before o after
-  made_withdraw q is asks kept =
-      record {
-        admits = λ e. absurd (omega arith);
-        acts = λ e. absurd (omega arith);
-        does = λ e. absurd (omega arith);
-        withdraws = λ _.
-            subst
-            (λ (q : RequestWithdraw). Withdraws b before q o.answer o.board after × Flagged o)
-            asks
-            kept;
-        checks = λ e. absurd (omega arith);
-        walks = λ e. absurd (omega arith);
-        none = λ e _. absurd (omega arith);
-      }
-
-  pub made_check :
-      (answer : Answer) → r.kind ≡ 4 → o ≡ outcome_of b answer → Checked b before after answer
-      → Makes b r before o after
-  made_check answer is gives kept =
-      let same : o.answer ≡ answer = λ i. (gives i).answer in
-      record {
-        admits = λ e. absurd (omega arith);
-        acts = λ e. absurd (omega arith);
-        does = λ e. absurd (omega arith);
-        withdraws = λ e. absurd (omega arith);
-        checks = λ _. (
-          subst (λ (a : Answer). Checked b before after a) (sym same) kept,
-          gives ∙ (λ i. outcome_of b (sym same i)),
-        );
-        walks = λ e. absurd (omega arith);
-        none = λ e _. absurd (omega arith);
-      }
-
-  pub made_walk :
-      (answer : Answer) → r.kind ≡ 6 → o ≡ outcome_of b answer → Walks b before after answer
-      → Makes b r before o after
-  made_walk answer is gives kept =
-      let same : o.answer ≡ answer = λ i. (gives i).answer in
-      record {
-        admits = λ e. absurd (omega arith);
-        acts = λ e. absurd (omega arith);
-        does = λ e. absurd (omega arith);
-        withdraws = λ e. absurd (omega arith);
-        checks = λ e. absurd (omega arith);
-        walks = λ _. (
-          subst (λ (a : Answer). Walks b before after a) (sym same) kept,
-          gives ∙ (λ i. outcome_of b (sym same i)),
-        );
-        none = λ _ other. absurd (other is);
-      }
-
-  pub made_none :
-      (r.kind ≡ 0 → ⊥) → (r.kind ≡ 1 → ⊥) → (r.kind ≡ 2 → ⊥) → (r.kind ≡ 3 → ⊥)
-      → (r.kind ≡ 4 → ⊥) → (r.kind ≡ 6 → ⊥) → o ≡ refused_with b answer.done → after ≡ before
-      → Makes b r before o after
-  made_none no_admit no_act no_do no_withdraw no_check no_Walk gives same =
-      record {
-        admits = λ e. absurd (no_admit e);
-        acts = λ e. absurd (no_act e);
-        does = λ e. absurd (no_do e);
-        withdraws = λ e. absurd (no_withdraw e);
-        checks = λ e. absurd (no_check e);
-        walks = λ e. absurd (no_Walk e);
-        none = λ _ _. (gives, same);
-      }
+    pub made_do :
+        (q : RequestDo) → kind ≡ Do → q ≡ request_do r → Does b q (answer_of result) (board_left b result)
+        → after ≡ before → Makes b r before result after
+    made_do q e asks kept same =
+        let P : RequestDo → Type 0 = λ q. Does b q (answer_of result) (board_left b result) in
+        made Do (ap number_of (sym e) ∙ is) (subst P asks kept, same)

@@ -1,8 +1,10 @@
 -- A session played: the whole records behind its board file, each once and in turn, on the live board.
 -- docs/REPLAY.md.
-use Rattle.std.specs.Prelude.{◌≡◌, List, [], ◌∷◌, ℕ, zero, suc, ◌-◌, ◌/◌, length, take, drop}
+use Rattle.std.specs.Prelude.{◌≡◌, List, [], ◌∷◌, ℕ, zero, suc, ◌-◌, ◌/◌, length, take, drop, Result}
 use Rattle.board.specs.declared.Board.{Board}
-use Rattle.outcomes.specs.declared.Outcome.{Outcome}
+use Rattle.board.specs.declared.Refusal.{Refusal}
+use Rattle.outcomes.specs.declared.Accepted.{Accepted}
+use Rattle.outcomes.specs.Outcomes.{board_left}
 use Rattle.session.specs.declared.Record.{Record}
 use Rattle.session.specs.Input.{file_start, file_end, record_at, lent_by}
 use Rattle.session.specs.Pokes.{poked_board}
@@ -30,9 +32,9 @@ pub record LeftByCall (b : Board) (r : Record) (left : Board) : Type 0 where
   pub before : List ℕ
   pub after : List ℕ
   pub lent : length before ≡ lent_by r.lent
-  pub outcome : Outcome
-  pub makes : Makes b r before outcome after
-  pub is : left ≡ outcome.board
+  pub result : Result Accepted Refusal
+  pub makes : Makes b r before result after
+  pub is : left ≡ board_left b result
 
 -- The record r leaves this board value: a poke, the one with its number set; any other, what its call leaves.
 pub record Turned (b : Board) (r : Record) (left : Board) : Type 0 where

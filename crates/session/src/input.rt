@@ -13,47 +13,35 @@ const BEFORE: usize = 4;
 fn byte(s: &[u8], at: usize) -> u8
     ensures { result ≡ get_or s.now at 0 }
 {
-    if at < s.len() { s[at] } else { 0 }
-}
-
-// A byte in two bytes.
-fn wide(x: u8) -> u16
-    ensures { (result ≡ x) × (result < 256) }
-{
-    x as u16
+    s.get(at).copied().unwrap_or(0)
 }
 
 // The number in two bytes.
-fn two_at(s: &[u8], at: u8) -> u16
+fn two_at(s: &[u8], at: usize) -> u16
+    requires { at < 254 }
     ensures { result ≡ two s.now at }
 {
-    let low = wide(byte(s, at as usize));
-    let high = wide(byte(s, at as usize + 1));
-    low + high * 256
-}
-
-// Two bytes in four.
-fn wider(x: u16) -> u32
-    ensures { (result ≡ x) × (result < 65536) }
-{
-    x as u32
+    u16::from_le_bytes([byte(s, at), byte(s, at + 1)])
 }
 
 // The number in four bytes.
-fn four_at(s: &[u8], at: u8) -> u32
+fn four_at(s: &[u8], at: usize) -> u32
     requires { at < 254 }
     ensures { result ≡ four s.now at }
 {
-    let low = wider(two_at(s, at));
-    let high = wider(two_at(s, at + 2));
-    low + high * 65536
+    u32::from_le_bytes([
+        byte(s, at),
+        byte(s, at + 1),
+        byte(s, at + 2),
+        byte(s, at + 3),
+    ])
 }
 
 // Where the board file starts: at the end of an input that is too short to say its length.
 pub fn file_start(s: &[u8]) -> usize
     ensures { (result ≡ file_start s.now) × (result ≤ length s.now) }
 {
-    board::within(BEFORE, s.len())
+    s.len().min(BEFORE)
 }
 
 // Where the board file ends.
@@ -63,36 +51,25 @@ pub fn file_end(s: &[u8]) -> usize
 {
     let start = file_start(s);
     let said = four_at(s, 0) as usize;
-    start + board::within(said, s.len() - start)
+    start + said.min(s.len() - start)
 }
 
 // The record at the start of these bytes.
 pub fn record_of(s: &[u8]) -> Record
     ensures { result ≡ record_at s.now }
 {
-    let kind = two_at(s, 0);
-    let lent = two_at(s, 2);
-    let doer = two_at(s, 4);
-    let action = two_at(s, 6);
-    let first = two_at(s, 8);
-    let second = two_at(s, 10);
-    let start = four_at(s, 12);
-    let end = four_at(s, 16);
-    let clock = four_at(s, 20);
-    let serial = four_at(s, 24);
-    let extra = four_at(s, 28);
     Record {
-        kind,
-        lent,
-        doer,
-        action,
-        first,
-        second,
-        start,
-        end,
-        clock,
-        serial,
-        extra,
+        kind: two_at(s, 0),
+        lent: two_at(s, 2),
+        doer: two_at(s, 4),
+        action: two_at(s, 6),
+        first: two_at(s, 8),
+        second: two_at(s, 10),
+        start: four_at(s, 12),
+        end: four_at(s, 16),
+        clock: four_at(s, 20),
+        serial: four_at(s, 24),
+        extra: four_at(s, 28),
     }
 }
 
@@ -100,5 +77,5 @@ pub fn record_of(s: &[u8]) -> Record
 pub fn lent_by(lent: u16) -> usize
     ensures { (result ≡ lent_by lent) × (result ≤ 256) }
 {
-    board::within(lent as usize, LENT)
+    (lent as usize).min(LENT)
 }
