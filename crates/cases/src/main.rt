@@ -4,197 +4,89 @@
 #![tactic(auto)]
 
 mod boards;
-mod by_value;
-mod bytes;
-mod lent;
 mod steps;
 mod wanted;
+mod ways;
 
-use board::{Answer, Board};
-use boards::{FILES, Small, board_of, file_of, opening_of};
-use lent_once::Left;
+use board::Board;
+use boards::{FILES, opening_of};
 use std::io;
-use steps::{Ask, Case, case_of, step_of};
-use wanted::{Told, is_wanted};
+use steps::{Step, admitted, in_turn, withdrawn};
+use wanted::{Told, Wanted};
+use ways::{ByValue, Left, Lent, Way};
 
 // What stands in the lent list before a call: no serial.
 const MARK: u32 = 4294967295;
 
-// ---- lines
-
-// Print a serial of a failing order.
-fn print_serial(rt: &impl Print, serial: u32) -> io::Result<()> {
-    print!(rt; " {serial}")
-}
-
-// Print an answer: its number, its serial, and the failing order.
-fn print_answer(rt: &impl Print, answer: Answer, list: &[u32]) -> io::Result<()> {
-    let serial = answer.serial;
-    print!(rt; " {} {} {}", answer.number, serial.0, answer.length)?;
-    let count = board::within(answer.length, list.len());
-    let mut i: usize = 0;
-    while i < count {
-        print_serial(rt, list[i])?;
-        i += 1;
+// End a line with the answer and the failing order, and answer how many differences from document 01 it
+// shows.
+fn compare(rt: &impl Print, left: Left, list: &[u32], wanted: Wanted) -> io::Result<u32> {
+    let answer = left.answer;
+    print!(rt; " {} {} {}", answer.number, answer.serial.0, answer.length)?;
+    for serial in list.iter().take(answer.length) {
+        print!(rt; " {serial}")?;
     }
-    Ok(())
-}
-
-// End a line, and answer how many differences it shows.
-fn end_line(rt: &impl Print, right: bool) -> io::Result<u32> {
-    if right {
-        println!(rt)?;
-        return Ok(0);
-    }
-    println!(rt; " differs")?;
-    Ok(1)
-}
-
-// ---- boards that are opened
-
-// Open a board file, by value or into a lent board.
-fn open(lent: bool, s: &[u8], list: &mut [u32]) -> Left {
-    if lent {
-        return lent::open(s, list);
-    }
-    by_value::open(s, list)
-}
-
-// Open the file of a small board.
-fn opened(lent: bool, board: Small, list: &mut [u32]) -> Left {
-    let mut bytes = [0u8; 256];
-    let n = file_of(board, &mut bytes);
-    open(lent, &bytes[0..n], list)
-}
-
-// What was told of a board, and of user 1 and the open duties on it.
-fn told_of(answer: Answer, board: Board) -> Told {
-    Told {
+    let told = Told {
         answer,
-        held: board.holdings[1],
-        open: board.counts.duties,
+        held: left.board.holdings[1],
+        open: left.board.counts.duties,
+    };
+    if wanted.is(told, list) {
+        println!(rt)?;
+        Ok(0)
+    } else {
+        println!(rt; " differs")?;
+        Ok(1)
     }
 }
 
-// Print which file the k-th is.
-fn print_name(rt: &impl Print, k: u8) -> io::Result<()> {
-    if k == 12 {
-        return print!(rt; "case 6b");
-    }
-    if k == 13 {
-        return print!(rt; "case 9b");
-    }
-    print!(rt; "case {k}")
-}
-
-// Print how the calls are made.
-fn print_way(rt: &impl Print, lent: bool) -> io::Result<()> {
-    if lent { print!(rt; "lent ") } else { Ok(()) }
-}
-
-// Open the k-th file, and compare the answer.
-fn open_case(rt: &impl Print, lent: bool, k: u8) -> io::Result<u32> {
-    let mut list = [MARK; Board::DUTIES];
-    let opening = opened(lent, board_of(k), &mut list);
-    let answer = opening.answer;
-    let board = opening.board;
-    print_way(rt, lent)?;
-    print_name(rt, k)?;
-    print!(rt; ":")?;
-    print_answer(rt, answer, &list)?;
-    end_line(rt, is_wanted(opening_of(k), told_of(answer, board), &list))
-}
-
-// Open every file.
-fn open_all(rt: &impl Print, lent: bool) -> io::Result<u32> {
+// Open every file, and compare the answers.
+fn open_all<W: Way>(rt: &impl Print) -> io::Result<u32> {
     let mut differences: u32 = 0;
-    let mut k: u8 = 1;
-    while k <= FILES {
-        let more = open_case(rt, lent, k)?;
-        differences = plus(differences, more);
-        k += 1;
+    for k in 1..=FILES {
+        let opening = opening_of(k);
+        let mut list = [MARK; Board::DUTIES];
+        let left = W::open(opening.file.as_slice(), &mut list);
+        print!(rt; "{}case {}:", W::PREFIX, opening.name)?;
+        let more = compare(rt, left, &list, opening.wanted)?;
+        differences = differences.saturating_add(more);
     }
     Ok(differences)
 }
 
-// ---- calls in turn
-
-// The board after a step, and how many differences there were so far.
-#[derive(Clone, Copy)]
-struct Turn {
-    pub board: Board,
-    pub differences: u32,
-}
-
-// Make a call, by value or on a lent board.
-fn called(lent: bool, b: Board, ask: Ask, list: &mut [u32]) -> Left {
-    if lent {
-        return lent::called(b, ask, list);
-    }
-    by_value::called(b, ask, list)
-}
-
-// Make the call of a step, and compare the answer and the board.
-fn made(rt: &impl Print, lent: bool, case: Case, k: u8, before: Turn) -> io::Result<Turn> {
-    let step = step_of(case.number, k);
+// The steps of a case in turn, on the board that the k-th file gives, compared.
+fn run<W: Way>(rt: &impl Print, case: u8, k: u8, steps: &[Step]) -> io::Result<u32> {
     let mut list = [MARK; Board::DUTIES];
-    let ask = step.ask;
-    let b = before.board;
-    let left = called(lent, b, ask, &mut list);
-    let answer = left.answer;
-    let board = left.board;
-    print_way(rt, lent)?;
-    print!(rt; "case {} step {k}:", case.number)?;
-    print_answer(rt, answer, &list)?;
-    let wanted = step.wanted;
-    let more = end_line(rt, is_wanted(wanted, told_of(answer, board), &list))?;
-    Ok(Turn {
-        board,
-        differences: plus(before.differences, more),
-    })
-}
-
-// The steps of a case in turn, on the board that it opens.
-fn run(rt: &impl Print, lent: bool, which: u8) -> io::Result<u32> {
-    let case = case_of(which);
-    let mut list = [MARK; Board::DUTIES];
-    let opening = opened(lent, board_of(case.file), &mut list);
-    let board = opening.board;
-    let mut now = Turn {
-        board,
-        differences: 0,
-    };
-    let mut k: u8 = 0;
-    while k < case.steps {
-        k += 1;
-        let next = made(rt, lent, case, k, now)?;
-        now = next;
+    let mut board = W::open(opening_of(k).file.as_slice(), &mut list).board;
+    let mut differences: u32 = 0;
+    for (i, step) in steps.iter().enumerate() {
+        let mut list = [MARK; Board::DUTIES];
+        let left = W::called(board, step.ask, &mut list);
+        board = left.board;
+        print!(rt; "{}case {case} step {}:", W::PREFIX, i + 1)?;
+        let more = compare(rt, left, &list, step.wanted)?;
+        differences = differences.saturating_add(more);
     }
-    Ok(now.differences)
+    Ok(differences)
 }
 
-// The sum, or the largest number where it does not fit.
-fn plus(a: u32, b: u32) -> u32 {
-    if b <= 4294967295 - a {
-        a + b
-    } else {
-        4294967295
-    }
-}
-
-// All boards, by value or through the lent layer: how many differences there were.
-fn all(rt: &impl Print, lent: bool) -> io::Result<u32> {
-    let files = open_all(rt, lent)?;
-    let first = run(rt, lent, 12)?;
-    let second = run(rt, lent, 13)?;
-    let third = run(rt, lent, 14)?;
-    let calls = plus(plus(first, second), third);
-    Ok(plus(files, calls))
+// All boards in one way: how many differences there were.
+fn all<W: Way>(rt: &impl Print) -> io::Result<u32> {
+    let files = open_all::<W>(rt)?;
+    let first = run::<W>(rt, 12, 2, &in_turn())?;
+    let second = run::<W>(rt, 13, 2, &withdrawn())?;
+    let third = run::<W>(rt, 14, 1, &admitted())?;
+    Ok(
+        files
+            .saturating_add(first)
+            .saturating_add(second)
+            .saturating_add(third),
+    )
 }
 
 fn main(rt: HostRuntime) -> io::Result<()> {
-    let by_value = all(&rt, false)?;
-    let lent = all(&rt, true)?;
-    let differences = plus(by_value, lent);
+    let by_value = all::<ByValue>(&rt)?;
+    let lent = all::<Lent>(&rt)?;
+    let differences = by_value.saturating_add(lent);
     println!(rt; "differences {differences}")
 }

@@ -1,8 +1,8 @@
 // What document 01 says of a case or a step, and whether that is what was told.
-use board::Answer;
+use board::{Answer, Refusal, Serial};
 
 // The answer, what user 1 holds from then on, and how many duties are open.
-#[derive(Clone, Copy)]
+#[derive(Clone, Copy, PartialEq, Eq)]
 pub(crate) struct Told {
     pub answer: Answer,
     pub held: u32,
@@ -12,78 +12,47 @@ pub(crate) struct Told {
 // The same as document 01 says it, with the failing order.
 #[derive(Clone, Copy)]
 pub(crate) struct Wanted {
-    pub number: u8,
-    pub serial: u32,
-    pub length: usize,
-    pub order: [u32; 3],
-    pub held: u32,
-    pub open: u16,
+    pub told: Told,
+    pub order: &'static [u32],
 }
 
-// An answer with no serial and no failing order.
-pub(crate) fn plainly(number: u8, held: u32, open: u16) -> Wanted {
-    let order = [0u32; 3];
-    Wanted {
-        number,
-        serial: 0,
-        length: 0,
-        order,
-        held,
-        open,
-    }
-}
-
-// Admitted under this serial.
-pub(crate) fn admitted(serial: u32, held: u32, open: u16) -> Wanted {
-    let order = [0u32; 3];
-    Wanted {
-        number: Answer::DONE,
-        serial,
-        length: 0,
-        order,
-        held,
-        open,
-    }
-}
-
-// Red, with the failing order.
-pub(crate) fn red(length: usize, order: [u32; 3], held: u32, open: u16) -> Wanted {
-    Wanted {
-        number: Answer::RED,
-        serial: 0,
-        length,
-        order,
-        held,
-        open,
-    }
-}
-
-// Whether the first entries of a list are those of an order, as many as it has.
-fn is_order(list: &[u32], order: [u32; 3], length: usize) -> bool {
-    let mut i: usize = 0;
-    while i < 3 {
-        if (i < length) & (entry(list, i) != order[i]) {
-            return false;
+impl Wanted {
+    // An answer with no failing order.
+    fn plainly(answer: Answer, held: u32, open: u16) -> Self {
+        Wanted {
+            told: Told { answer, held, open },
+            order: &[],
         }
-        i += 1;
     }
-    true
-}
 
-// What a list has at an index, 0 past its end.
-fn entry(list: &[u32], i: usize) -> u32 {
-    if i < list.len() { list[i] } else { 0 }
-}
+    // Done.
+    pub(crate) fn done(held: u32, open: u16) -> Self {
+        Wanted::admitted(0, held, open)
+    }
 
-// Whether document 01 wants what was told.
-pub(crate) fn is_wanted(wanted: Wanted, told: Told, list: &[u32]) -> bool {
-    let answer = told.answer;
-    let serial = answer.serial;
-    let order = wanted.order;
-    (answer.number == wanted.number)
-        & (serial.0 == wanted.serial)
-        & (answer.length == wanted.length)
-        & is_order(list, order, wanted.length)
-        & (told.held == wanted.held)
-        & (told.open == wanted.open)
+    // Admitted under this serial.
+    pub(crate) fn admitted(serial: u32, held: u32, open: u16) -> Self {
+        Wanted::plainly(Answer::done(Serial(serial)), held, open)
+    }
+
+    // Refused, with no failing order.
+    pub(crate) fn refused(refusal: Refusal, held: u32, open: u16) -> Self {
+        Wanted::plainly(Answer::from(refusal), held, open)
+    }
+
+    // Red, with this failing order.
+    pub(crate) fn red(order: &'static [u32], held: u32, open: u16) -> Self {
+        let refusal = Refusal::Red {
+            length: order.len(),
+        };
+        Wanted {
+            order,
+            ..Wanted::refused(refusal, held, open)
+        }
+    }
+
+    // Whether this was told, with the failing order at the start of the list.
+    pub(crate) fn is(&self, told: Told, list: &[u32]) -> bool {
+        self.told == told && list.starts_with(self.order)
+    }
 }

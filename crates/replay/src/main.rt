@@ -7,137 +7,111 @@ mod show;
 mod text;
 
 use board::{Answer, Board};
-use lent::{BUFFER, FIRST_BYTE, Lists, buffer_by, is_kept, is_rest_kept, mark, noted};
-use session::{LENT, Record, SIZE};
+use lent::{BUFFER, FIRST_BYTE, is_kept, is_rest_kept, marked};
+use session::{Kind, Record, SIZE};
 use show::{put_answer, put_board, put_lists, put_opening, put_save};
 use std::io;
-use text::{ROOM, put, write_out};
+use std::io::Write;
+use text::Text;
 
 // The most bytes that are read.
 const INPUT: usize = 65536;
 
-// The live board, where the next byte of the text goes, and whether the lent lists and buffers were
-// kept so far.
-#[derive(Clone, Copy)]
+// The live board, and the first record in whose call an entry or byte was changed that the call may not
+// write; 0 is the opening.
+#[derive(Drop)]
 struct Live {
-    pub board: Board,
-    pub here: usize,
-    pub lists: Lists,
+    board: Board,
+    changed: Option<usize>,
 }
 
-// Open a board file, and put the line of the opening.
-fn opened(rt: &impl Print, file: &[u8], out: &mut [u8; ROOM]) -> io::Result<Live> {
-    let mut list = [0u32; LENT];
-    mark(&mut list);
-    let n = Board::DUTIES;
-    let opening = open::open(file, &mut list[0..n]);
-    let answer = opening.answer;
-    let board = opening.board;
-    let here = put_opening(rt, out, 0, answer, &list)?;
-    let lists = noted(Lists::Kept, is_kept(&list, answer), 0);
-    Ok(Live { board, here, lists })
-}
+impl Live {
+    // Open a board file, and put the line of the opening. A refused one gives the smallest board.
+    fn open(file: &[u8], out: &mut impl Write) -> io::Result<Live> {
+        let mut list = marked();
+        let n = session::lent_by(Board::DUTIES as u16);
+        let opened = open::open(file, &mut list[..n]);
+        let mut live = Live {
+            board: opened.unwrap_or(Board::smallest()),
+            changed: None,
+        };
+        live.note(is_kept(&list, &opened), 0);
+        put_opening(
+            out,
+            opened.map_or_else(Answer::from, |_| Answer::plain(Answer::DONE)),
+            &list,
+        )?;
+        Ok(live)
+    }
 
-// Make a call that is lent a list, and put its line.
-fn answered(
-    rt: &impl Print,
-    live: Live,
-    r: Record,
-    number: usize,
-    out: &mut [u8; ROOM],
-) -> io::Result<Live> {
-    let mut list = [0u32; LENT];
-    mark(&mut list);
-    let n = session::lent_by(r.lent);
-    let before = live.board;
-    let outcome = session::called(before, r, &mut list[0..n]);
-    let answer = outcome.answer;
-    let board = outcome.board;
-    let here = put_answer(rt, out, live.here, answer, &list)?;
-    let so_far = live.lists;
-    let lists = noted(so_far, is_kept(&list, answer), number);
-    Ok(Live { board, here, lists })
-}
+    // The first record is kept in whose call what may not be written was not kept.
+    fn note(&mut self, kept: bool, number: usize) {
+        if !kept {
+            self.changed = self.changed.or(Some(number));
+        }
+    }
 
-// Save the live board, and put the line of it.
-fn saved(
-    rt: &impl Print,
-    live: Live,
-    r: Record,
-    number: usize,
-    out: &mut [u8; ROOM],
-) -> io::Result<Live> {
-    let mut buffer = [FIRST_BYTE; BUFFER];
-    let n = buffer_by(r.extra);
-    let board = live.board;
-    let answer = save::save(board, &mut buffer[0..n]).map_or_else(Answer::from, Answer::written);
-    let here = put_save(rt, out, live.here, answer, &buffer)?;
-    let so_far = live.lists;
-    let lists = noted(so_far, is_rest_kept(&buffer, answer), number);
-    Ok(Live { board, here, lists })
-}
+    // Make a call that is lent a list, and put its line.
+    fn call(&mut self, r: Record, number: usize, out: &mut impl Write) -> io::Result<()> {
+        let mut list = marked();
+        let n = session::lent_by(r.lent);
+        let called = session::called(self.board, r, &mut list[..n]);
+        if let Ok(accepted) = called {
+            self.board = accepted.board;
+        }
+        self.note(is_kept(&list, &called), number);
+        put_answer(
+            out,
+            called.map_or_else(Answer::from, |accepted| Answer::done(accepted.serial)),
+            &list,
+        )
+    }
 
-// Set one number of the live board, and put the line of it.
-fn set(rt: &impl Print, live: Live, r: Record, out: &mut [u8; ROOM]) -> io::Result<Live> {
-    let before = live.board;
-    let board = session::poked(before, r);
-    let here = put(rt, out, live.here, b"poke\n")?;
-    let lists = live.lists;
-    Ok(Live { board, here, lists })
-}
+    // Save the live board, and put the line of it.
+    fn save(&mut self, r: Record, number: usize, out: &mut impl Write) -> io::Result<()> {
+        let mut buffer = [FIRST_BYTE; BUFFER];
+        let n = (r.extra as usize).min(BUFFER);
+        let saved = save::save(self.board, &mut buffer[..n]);
+        self.note(is_rest_kept(&buffer, saved), number);
+        put_save(
+            out,
+            saved.map_or_else(Answer::from, Answer::written),
+            &buffer,
+        )
+    }
 
-// Put the line of a record that is no call.
-fn unknown(rt: &impl Print, live: Live, out: &mut [u8; ROOM]) -> io::Result<Live> {
-    let board = live.board;
-    let here = put(rt, out, live.here, b"?\n")?;
-    let lists = live.lists;
-    Ok(Live { board, here, lists })
-}
-
-// What the record with this number, from 1 on, asks for.
-fn turn(
-    rt: &impl Print,
-    live: Live,
-    r: Record,
-    number: usize,
-    out: &mut [u8; ROOM],
-) -> io::Result<Live> {
-    let kind = r.kind;
-    match kind {
-        session::ADMIT..=session::CHECK => answered(rt, live, r, number, out),
-        session::WALK => answered(rt, live, r, number, out),
-        session::SAVE => saved(rt, live, r, number, out),
-        session::POKE => set(rt, live, r, out),
-        _ => unknown(rt, live, out),
+    // What the record with this number, from 1 on, asks for: a call, a save, a poke, which sets one number of
+    // the live board, or nothing that there is.
+    fn turn(&mut self, r: Record, number: usize, out: &mut impl Write) -> io::Result<()> {
+        match Kind::try_from(r.kind) {
+            Ok(Kind::Save) => self.save(r, number, out),
+            Ok(Kind::Poke) => {
+                self.board = session::poked(self.board, r);
+                writeln!(out, "poke")
+            }
+            Ok(_) => self.call(r, number, out),
+            Err(_) => writeln!(out, "?"),
+        }
     }
 }
 
 // The board file, and then the whole records in turn.
-fn replay(rt: &impl Print, s: &[u8], out: &mut [u8; ROOM]) -> io::Result<Live> {
+fn replay(s: &[u8], out: &mut impl Write) -> io::Result<()> {
     let first = session::file_start(s);
     let end = session::file_end(s);
-    let mut live = opened(rt, &s[first..end], out)?;
-    let mut number: usize = 0;
-    let mut at = end;
-    while SIZE <= s.len() - at {
-        let r = session::record_of(&s[at..]);
-        at += SIZE;
-        number += 1;
-        let next = turn(rt, live, r, number, out)?;
-        live = next;
+    let mut live = Live::open(&s[first..end], out)?;
+    for (i, bytes) in s[end..].chunks_exact(SIZE).enumerate() {
+        live.turn(session::record_of(bytes), i + 1, out)?;
     }
-    Ok(live)
+    put_board(out, &live.board)?;
+    put_lists(out, live.changed)
 }
 
 fn main(rt: HostRuntime) -> io::Result<()> {
     let mut bytes = [0u8; INPUT];
     let mut input = rt.reader();
     let n = streams::read_full(&mut input, &mut bytes)?;
-    let mut out = [0u8; ROOM];
-    let live = replay(&rt, &bytes[..n], &mut out)?;
-    let board = live.board;
-    let lists = live.lists;
-    let here = put_board(&rt, &mut out, live.here, board)?;
-    let end = put_lists(&rt, &mut out, here, lists)?;
-    write_out(&rt, &out, end)
+    let mut out = Text::new(io::writer(&rt));
+    replay(&bytes[..n], &mut out)?;
+    out.flush()
 }

@@ -1,0 +1,78 @@
+// The two ways to make the calls: by value, and on a board that is lent to them.
+use crate::steps::Ask;
+use board::{Answer, Board, Refusal};
+
+// What a call answers, and the board that it leaves.
+#[derive(Clone, Copy)]
+pub(crate) struct Left {
+    pub answer: Answer,
+    pub board: Board,
+}
+
+pub(crate) trait Way {
+    // What stands before each line.
+    const PREFIX: &'static str;
+
+    // Open a board file.
+    fn open(s: &[u8], list: &mut [u32]) -> Left;
+
+    // Make the call that a step asks for.
+    fn called(b: Board, ask: Ask, list: &mut [u32]) -> Left;
+}
+
+pub(crate) struct ByValue;
+
+impl Way for ByValue {
+    const PREFIX: &'static str = "";
+
+    fn open(s: &[u8], list: &mut [u32]) -> Left {
+        let opened = open::open(s, list);
+        Left {
+            answer: opened.map_or_else(Answer::from, |_| Answer::plain(Answer::DONE)),
+            board: opened.unwrap_or(Board::smallest()),
+        }
+    }
+
+    fn called(b: Board, ask: Ask, list: &mut [u32]) -> Left {
+        let called = match ask {
+            Ask::Admit(q) => admit::admit(b, list, q),
+            Ask::Act(q) => act::act(b, list, q),
+            Ask::Do(q) => do_duty::do_duty(b, q),
+            Ask::Withdraw(q) => withdraw::withdraw(b, list, q),
+        };
+        Left {
+            answer: called.map_or_else(Answer::from, |accepted| Answer::done(accepted.serial)),
+            board: called.map_or(b, |accepted| accepted.board),
+        }
+    }
+}
+
+pub(crate) struct Lent;
+
+// What a lent call that answers no serial left.
+fn plainly(left: (Result<(), Refusal>, Board)) -> Left {
+    let (done, board) = left;
+    let answer = done.map_or_else(Answer::from, |()| Answer::plain(Answer::DONE));
+    Left { answer, board }
+}
+
+impl Way for Lent {
+    const PREFIX: &'static str = "lent ";
+
+    fn open(s: &[u8], list: &mut [u32]) -> Left {
+        plainly(lent_once::open(Board::smallest(), s, list))
+    }
+
+    fn called(b: Board, ask: Ask, list: &mut [u32]) -> Left {
+        match ask {
+            Ask::Admit(q) => {
+                let (admitted, board) = lent_once::admit(b, list, q);
+                let answer = admitted.map_or_else(Answer::from, Answer::done);
+                Left { answer, board }
+            }
+            Ask::Act(q) => plainly(lent_once::act(b, list, q)),
+            Ask::Do(q) => plainly(lent_once::do_duty(b, q)),
+            Ask::Withdraw(q) => plainly(lent_once::withdraw(b, list, q)),
+        }
+    }
+}
