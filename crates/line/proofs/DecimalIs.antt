@@ -5,13 +5,12 @@ use mathlib.Core.Logic.{⊎_elim}
 use mathlib.Core.List.{List, [], ◌∷◌, ◌++◌}
 use mathlib.Core.List.Memᴰ
 use mathlib.Core.List.{Memᴰ}
-use Prim.Native.Nat.{ℕ, zero, suc, ◌+◌, ◌-◌, ◌*◌, ◌/◌, ◌%◌, ◌^◌, ◌≤◌, ◌<◌}
-use native.Mathlib.Nat.{pow-suc}
-use native.Mathlib.Decide.{dec_lt}
+use Prim.Native.Nat.{ℕ, ◌+◌, ◌-◌, ◌*◌, ◌/◌, ◌%◌, ◌^◌, ◌≤◌, ◌<◌}
 use native.Mathlib.Omega.{arith}
 use lib.ListN.{get_or}
-use borrow.Author.Tests.{lt-ltb, le-ltb}
-use Rattle.line.specs.Line.{digits, max_digits, decimal}
+use Rattle.std.proofs.lemmas.Fmt.{decimal_by_steps}
+use Rattle.line.specs.Line.{decimal}
+use Rattle.line.proofs.NumberLaws.{same_decimal}
 
 -- digits read from the first to the last, after a number that was read before them
 abbrev pub read : ℕ → List ℕ → ℕ
@@ -50,24 +49,5 @@ more_digits n l h p =
       front = λ q. same_front l ((48 + n % 10) ∷ []) (p.front (omega arith));
     }
 
-longer : (k n : ℕ) → Decimal (n / 10) (digits k (n / 10)) → Decimal n (digits (suc k) n)
-longer k n p = elim (dec_lt n 10) [ yes h ↦ few h | no h ↦ many (omega arith) ]
-  where
-    few : n < 10 → Decimal n (digits (suc k) n)
-    few h = rw (lt-ltb n 10 h) (one_digit n h)
-
-    many : 10 ≤ n → Decimal n (digits (suc k) n)
-    many h = rw (le-ltb n 10 h) (more_digits n (digits k (n / 10)) h p)
-
-digits_are : (k n : ℕ) → n < 10 ^ k → Decimal n (digits k n)
-digits_are zero n h =
-    record {
-      each = λ d m. absurd (Memᴰ.not-nil m);
-      whole = omega arith;
-      front = λ p. absurd (omega arith);
-    }
-digits_are (suc k) n h = longer k n (digits_are k (n / 10) (omega (arith, pow-suc 10 k)))
-
 pub decimal_is : (n : ℕ) → n < 2 ^ 64 → Decimal n (decimal n)
-unfolding decimal
-decimal_is n h = digits_are max_digits n (omega arith)
+decimal_is n h = rw (same_decimal n h) (decimal_by_steps Decimal one_digit more_digits n h)

@@ -8,6 +8,9 @@ use lib.ListN.{length, take, length-append}
 use lib.Seq.{length-take-le}
 use Rattle.board.specs.declared.Board.{Board}
 use Rattle.board.specs.declared.Counts.{Counts}
+use Rattle.board.specs.declared.Duty.{Duty}
+use Rattle.board.specs.declared.Permission.{Permission}
+use Rattle.board.specs.declared.Rule.{Rule}
 use Rattle.board.specs.Filler.{Sized}
 use Rattle.board.specs.Good.{good}
 use Rattle.board.specs.View.{View, view}
@@ -62,21 +65,23 @@ file_length v held =
       part_length duty_bytes duty_size (λ x. refl) v.duties,
     )
 
--- as long as the header and its parts
+-- as long as the header and its parts, by whatever lists the parts are put
 pub saved_parts :
-    (b : Board)
+    (b : Board) {u : List ℕ} {p : List Permission} {r : List Rule} {d : List Duty} → u ≡ (view b).holdings
+    → p ≡ (view b).permissions → r ≡ (view b).rules → d ≡ (view b).duties
     → length (saved b)
     ≡ header_size
-    + length (part four_bytes (view b).holdings)
-    + length (part permission_bytes (view b).permissions)
-    + length (part rule_bytes (view b).rules)
-    + length (part duty_bytes (view b).duties)
+    + length (part four_bytes u)
+    + length (part permission_bytes p)
+    + length (part rule_bytes r)
+    + length (part duty_bytes d)
 unfolding file_of
-saved_parts b =
-    five_long (header_bytes (counts_said (view b)) b.clock b.next.0) (part four_bytes (view b).holdings)
+saved_parts b {u} {p} {r} {d} users permissions rules duties =
+    rw (users, permissions, rules, duties)
+    (five_long (header_bytes (counts_said (view b)) b.clock b.next.0) (part four_bytes (view b).holdings)
     (part permission_bytes (view b).permissions)
     (part rule_bytes (view b).rules)
-    (part duty_bytes (view b).duties)
+    (part duty_bytes (view b).duties))
 
 -- header and parts put one after the other
 pub file_put :

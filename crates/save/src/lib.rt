@@ -33,6 +33,7 @@ fn put_file(b: &Board, file: &mut Writer<'_>)
 }
 
 // Save, and answer the length of the file: 19, 20.
+#[tactic(auto, using(crate::proofs::Saving::broken))]
 pub fn save(b: Board, buffer: &mut [u8]) -> Result<usize, Refusal>
     ensures { Saves b buffer.old buffer.new (answered written_answer result) }
 {

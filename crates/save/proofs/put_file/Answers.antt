@@ -1,56 +1,31 @@
 -- Header and parts are put one after the other, and each has room, since the file is as long as they are.
-use mathlib.Core.Path.{ap}
+use mathlib.Core.Path.{refl}
 use native.Mathlib.Omega.{arith}
-use lib.ListN.{length}
-use Rattle.layout.specs.Bytes.{four_bytes}
-use Rattle.save.specs.FileOf.{permission_bytes, rule_bytes, duty_bytes, part}
 use Rattle.save.proofs.FileLaws.{saved_parts, file_put}
 use Rattle.save.proofs.put_file.Goals as goal
 
 pub put_header-requires : goal.put_header-requires
-put_header-requires c = omega (arith, saved_parts c.args.b.now, c.requires.room)
+put_header-requires c = omega (arith, saved_parts c.args.b.now refl refl refl refl, c.requires.room)
 
 pub put_part-requires : goal.put_part-requires
 put_part-requires c =
-    omega (
-      arith,
-      saved_parts c.args.b.now,
-      c.requires.room,
-      ap (λ l. length (part four_bytes l)) c.users.ensures,
-    )
+    omega (arith, saved_parts c.args.b.now c.users.ensures refl refl refl, c.requires.room)
 
 pub put_part-requires-2 : goal.put_part-requires-2
 put_part-requires-2 c =
-    omega (
-      arith,
-      saved_parts c.args.b.now,
-      c.requires.room,
-      ap (λ l. length (part four_bytes l)) c.users.ensures,
-      ap (λ l. length (part permission_bytes l)) c.permissions.ensures,
-    )
+    let long = saved_parts c.args.b.now c.users.ensures c.permissions.ensures refl refl in
+    omega (arith, long, c.requires.room)
 
 pub put_part-requires-3 : goal.put_part-requires-3
 put_part-requires-3 c =
-    omega (
-      arith,
-      saved_parts c.args.b.now,
-      c.requires.room,
-      ap (λ l. length (part four_bytes l)) c.users.ensures,
-      ap (λ l. length (part permission_bytes l)) c.permissions.ensures,
-      ap (λ l. length (part rule_bytes l)) c.rules.ensures,
-    )
+    let long = saved_parts c.args.b.now c.users.ensures c.permissions.ensures c.rules.ensures refl in
+    omega (arith, long, c.requires.room)
 
 pub put_part-requires-4 : goal.put_part-requires-4
 put_part-requires-4 c =
-    omega (
-      arith,
-      saved_parts c.args.b.now,
-      c.requires.room,
-      ap (λ l. length (part four_bytes l)) c.users.ensures,
-      ap (λ l. length (part permission_bytes l)) c.permissions.ensures,
-      ap (λ l. length (part rule_bytes l)) c.rules.ensures,
-      ap (λ l. length (part duty_bytes l)) c.duties.ensures,
-    )
+    let long =
+    saved_parts c.args.b.now c.users.ensures c.permissions.ensures c.rules.ensures c.duties.ensures in
+    omega (arith, long, c.requires.room)
 
 pub returns : goal.returns
 returns c =
