@@ -9,12 +9,13 @@ use Rattle.board.specs.declared.Refusal.TheVariants.{NotOpen, NotPermitted}
 use Rattle.board.specs.Answers.{Answers}
 use Rattle.board.specs.Good.{good}
 use Rattle.board.specs.Numbers as answer
+use Rattle.board.specs.Refusals.{number_of}
 use Rattle.board.specs.View.{view}
 use Rattle.board.proofs.RefusalLaws.{refusal_numbered}
 use Rattle.board.proofs.Sized.{sized}
 use Rattle.pool.proofs.FoundLaws.{FoundOpen, found_missing, found_open}
 use Rattle.do_duty.specs.Does.{do_checks}
-use Rattle.do_duty.specs.Inside.{duty_checks}
+use Rattle.do_duty.specs.Inside.{time_checks, duty_checks}
 use Rattle.do_duty.proofs.Doing.{refused_does, first_answers, good_board, past_board, past_open}
 use Rattle.do_duty.proofs.Doing.{time_answers, may_not, may_do, done_does}
 use Rattle.do_duty.proofs.do_duty.Goals as goal
@@ -55,11 +56,13 @@ pub returns-in_err-in_time : goal.returns-in_err-in_time
 returns-in_err-in_time c =
     let here = (goal.at.returns-in_err-in_time c).In-Some in
     let p = err_from_is_err_and c.from_residual-in_err-in_time.result c.from_residual-in_err-in_time.ensures.1 in
+    let told : Answers (time_checks c.duties-duties.result.now c.in-Some.d c.args.q.clock)
+    (number_of c.in_err-in_time.field-0.0) = c.in_err-in_time.ensures in
     rw (p.1, p.2)
     (refused_does c.args.b c.args.q _
     (answers_here here _
     (time_answers c.args.b (good_found here) c.args.q c.in-Some.d (is_found here) _
-    (rw c.duties-duties.ensures at c.in_err-in_time.ensures) (refusal_numbered _))))
+    (rw c.duties-duties.ensures at told) (refusal_numbered _))))
 
 pub returns-then-not-permitted : goal.returns-then-not-permitted
 returns-then-not-permitted c =
