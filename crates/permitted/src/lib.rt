@@ -20,7 +20,7 @@ fn permission_for(permissions: &[Permission], action: u16, object: u16) -> Optio
     permissions
         .iter()
         .copied()
-        .find(|p| (p.action == action) & (p.object == object))
+        .find(|p| p.action == action && p.object == object)
 }
 
 // What a use of the action on the object asks: the role of its permission.
@@ -37,7 +37,7 @@ fn rule_for(rules: &[Rule], kind: u16, role: u16) -> Option<Rule>
     rules
         .iter()
         .copied()
-        .find(|r| (r.kind == kind) & (r.role == role))
+        .find(|r| r.kind == kind && r.role == role)
 }
 
 // What a grant (kind 0) or revoke (kind 1) of the role asks: that the target and the doer meet its rule.
