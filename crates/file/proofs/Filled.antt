@@ -104,8 +104,8 @@ module _ {A : Type 0} (at : ℕ → A) (filler : A) (room : ℕ) where
       (set_at (map at (below i)) filler (replicate (room - suc i) filler) (at i) i (records_length at i))
 
   -- no record yet
-  pub filling_starts : (x : A) → x ≡ filler → replicate room x ≡ filled at filler room 0
-  filling_starts x e = rw (sub-zero room) (ap (replicate room) e)
+  pub filling_starts : (out : List A) → out ≡ replicate room filler → out ≡ filled at filler room 0
+  filling_starts out e = rw (sub-zero room) e
 
   -- one more record, written in its place
   pub filling_next :

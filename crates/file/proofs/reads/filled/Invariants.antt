@@ -1,8 +1,0 @@
--- `filled` meets its contract. The loop's invariant: the first i places hold the records that the bytes say,
--- the rest of the room holds the filler.
-use mathlib.Core.Path.{◌≡◌}
-use Rattle.file.specs.Reads.{filled}
-use Rattle.file.proofs.reads.filled.Given as goal
-
-abbrev pub invariant-loop-i : goal.invariant-loop-i
-invariant-loop-i g l = l.out ≡ filled (g.T.Record.said l.file.bytes.now) g.T.Record.filler g.row.N l.i
