@@ -1,3 +1,3 @@
-pub mod PutIn
+pub mod Permuted
 pub mod ByKeys
 pub mod Allowed

@@ -4,17 +4,17 @@ use mathlib.Core.Path.{◌≡◌, refl, sym, ap, ◌∙◌}
 use mathlib.Core.Logic.{⊎_elim}
 use mathlib.Core.Bool.{Bool, true, false, ◌||◌}
 use mathlib.Core.List.{List, [], ◌∷◌, ◌++◌}
-use Rattle.std.specs.Prelude.{Option, None}
+use Rattle.std.specs.Prelude.{Option, None, Some}
 use Prim.Native.Nat.{ℕ, suc, ◌+◌, ◌≤◌, ◌<◌}
 use native.Mathlib.Numerals.{add-one}
 use native.Mathlib.Omega.{arith}
-use lib.Dec.{leb}
+use lib.Dec.{eqb, leb}
 use lib.ListN.{length, take, drop, get_or, length-set, length-take, drop_of_length-le}
-use lib.Seq.{drop-cons, get_or-take}
-use borrow.Author.Tests.{leb-true, leb-false}
+use lib.Seq.{drop-cons, take-length}
+use borrow.Author.Tests.{eq-eqb}
 use Rattle.orders.specs.Lists.{Mem, keep}
-use Rattle.orders.proofs.Loops.{take_mem}
-use Rattle.orders.proofs.Tests.{by_test, or_true, or_false}
+use Rattle.orders.proofs.Loops.{take_mem, mem_take}
+use Rattle.orders.proofs.Tests.{by_test, clash}
 use Rattle.asks.specs.declared.Ask.{Ask}
 use Rattle.asks.specs.Asks.{AskedBy}
 use Rattle.board.specs.declared.Duty.{Duty}
@@ -22,7 +22,7 @@ use Rattle.board.specs.Filler.{no_duty}
 use Rattle.in_order.specs.InOrder.{place_in_key, by_keys, OfTheFirst}
 use Rattle.in_order.proofs.ByKeys.{as_many, at_key}
 use Rattle.trails.specs.Walking.{Walk, in_trail, trail_of, do_one, do_all, set_out}
-use Rattle.trails.specs.Walking.{ask_at, AskedInTurn, PartDone, PlaceOf, Walked}
+use Rattle.trails.specs.Walking.{ask_at, AskedInTurn, PartDone, Found, Walked}
 
 -- ---- one duty, and one part after another
 
@@ -33,6 +33,16 @@ one_keeps ask w y =
     (w.0.stuck || leb (length w.1) w.0.length)
     (λ e. rw e)
     (λ e. rw e (length-set w.1 w.0.length y.serial.0))
+
+-- a walk that is stuck stays as it is
+pub one_stays : (ask : Option Ask) (w : Walk × List ℕ) (y : Duty) → w.0.stuck ≡ true → do_one ask w y ≡ w
+unfolding do_one
+one_stays ask w y e = rw e refl
+
+pub all_stay : (asked : Duty → Option Ask) (w : Walk × List ℕ) (l : List Duty) → w.0.stuck ≡ true → do_all asked w l ≡ w
+unfolding do_all
+all_stay asked w [] e = refl
+all_stay asked w (y ∷ l) e = rw (one_stays (asked y) w y e) (all_stay asked w l e)
 
 do_append :
     (asked : Duty → Option Ask) (w : Walk × List ℕ) (l m : List Duty)
@@ -45,16 +55,16 @@ do_append asked w (y ∷ l) m = do_append asked (do_one (asked y) w y) l m
 
 -- the duties below place k are behind the walk
 pub record Passed
-    (order : List Duty) (asks : ℕ → Option Ask) (passes : Duty → Bool) (start now : Walk × List ℕ) (k : ℕ) : Type 0
+    (order : List Duty) (asks : ℕ → Option Ask) (passes : Duty → Bool) (start now : Walk × List ℕ) (k : ℕ)
+    : Type 0
   where
-    pub long : length now.1 ≡ length start.1
     pub same :
         (asked : Duty → Option Ask) → AskedInTurn asked order asks
         → do_all asked now (keep passes (drop k order)) ≡ do_all asked start (keep passes order)
 
 module _ {order : List Duty} {asks : ℕ → Option Ask} {passes : Duty → Bool} {start : Walk × List ℕ} where
   pub begun : Passed order asks passes start start 0
-  begun = record { long = refl; same = λ asked are. refl }
+  begun = record { same = λ asked are. refl }
 
   module _
       {now : Walk × List ℕ} {k : ℕ} (passed : Passed order asks passes start now k) (h : k < length order)
@@ -68,18 +78,17 @@ module _ {order : List Duty} {asks : ℕ → Option Ask} {passes : Duty → Bool
           → Passed order asks passes start then (k + 1)
       unfolding do_all
       turn_done t then e =
-          record {
-            long = ap (λ (w : Walk × List ℕ). length w.1) e ∙ one_keeps (asks k) now y
-                ∙ passed.long;
-            same = λ asked are. rw (e, are k h, is) (rw (left, t) at (passed.same asked are));
-          }
+          record { same = λ asked are. rw (e, are k h, is) (rw (left, t) at (passed.same asked are)) }
 
       pub turn_skips : passes y ≡ false → Passed order asks passes start now (k + 1)
-      turn_skips f =
-          record {
-            long = passed.long;
-            same = λ asked are. rw (left, f) at (passed.same asked are);
-          }
+      turn_skips f = record { same = λ asked are. rw (left, f) at (passed.same asked are) }
+
+      -- the walk gets stuck
+      pub turn_stuck :
+          passes y ≡ true → (then : Walk × List ℕ) → then ≡ do_one (asks k) now y → then.0.stuck ≡ true
+          → PartDone order asks passes start then
+      turn_stuck t then e s asked are =
+          sym (all_stay asked then (keep passes (drop (k + 1) order)) s) ∙ (turn_done t then e).same asked are
 
   pub part_done :
       {now : Walk × List ℕ} {k : ℕ} → length order ≤ k → Passed order asks passes start now k
@@ -88,106 +97,169 @@ module _ {order : List Duty} {asks : ℕ → Option Ask} {passes : Duty → Bool
   part_done {k = k} h passed asked are =
       rw (drop_of_length-le order {i = k} h) at (passed.same asked are)
 
--- ---- the trail of the duties at two places
+-- the key at a place is one of all, and its duty is the one at the key's place
+pub at_turn :
+    (duties : List Duty) (keys : List ℕ) (k : ℕ) → k < length keys → OfTheFirst duties (length keys) keys →
+    let place = place_in_key (get_or keys k 0) in
+    (k < length (by_keys duties (length keys) keys))
+    × (place < length duties)
+    × (get_or (by_keys duties (length keys) keys) k no_duty ≡ get_or duties place no_duty)
+at_turn duties keys k h inside =
+    let many = as_many duties (length keys) keys in
+    let within = inside k (omega (arith, length-take (length keys) keys)) in (
+      omega (arith, many),
+      omega (arith, within, length-take (length keys) duties),
+      at_key duties (length keys) keys k h h,
+    )
 
-module _ (asked : Duty → Option Ask) (pool : List Duty) (x d : Duty) (start first second third last : Walk × List ℕ)
-  where
-    abbrev part : Bool → List Duty
-    part late = keep (in_trail late x d) pool
+-- where the duty at each place has another serial, none has this one
+pub nowhere :
+    (duties : List Duty) (serial : ℕ)
+    → ((k : ℕ) (d : Duty) → 0 ≤ k → k < length duties → eqb (get_or duties k d).serial.0 serial ≡ false)
+    → (y : Duty) → Mem y duties → y.serial.0 ≡ serial → ⊥
+nowhere duties serial other y m e =
+    let (k, h, l, is) = mem_take duties (length duties) no_duty (rw (← take-length duties) at m) in
+    clash (eq-eqb _ _ e) (rw is at (other k no_duty (omega arith) h))
 
-    four_parts :
-        first ≡ do_all asked start (part false) → second ≡ do_one (asked x) first x
-        → third ≡ do_all asked second (part true) → last ≡ do_one (asked d) third d
-        → last ≡ do_all asked start (trail_of pool x d)
-    unfolding do_all
-    four_parts p q r s =
-        rw
-        (s, r, q, p)
-        (sym (do_append asked start (part false) (x ∷ (part true ++ (d ∷ [])))
-        ∙ do_append asked (do_one (asked x) (do_all asked start (part false)) x) (part true) (d ∷ [])))
+-- ---- the trail of two duties
 
-module _ (duties : List Duty) (n : ℕ) (asks : List (Option Ask)) (asked : Duty → Option Ask) where
-  abbrev pool : List Duty
-  pool = take n duties
-
-  -- the duty with a serial is the one at the place found, and so is what is asked for it
-  record Known (y : Duty) (place : ℕ) : Type 0 where
-    duty : get_or duties place no_duty ≡ y
-    ask : get_or asks place None ≡ asked y
-
-  known :
-      AskedBy asked pool (length pool) asks
-      → ((y z : Duty) → Mem y pool → Mem z pool → y.serial.0 ≡ z.serial.0 → y ≡ z)
-      → (serial place : ℕ) → PlaceOf duties n serial place → place < n
-      → (y : Duty) → Mem y pool → y.serial.0 ≡ serial → Known y place
-  known are unique serial place at h y m e =
-      let k = at.room h in
-      let is = unique _ y (take_mem duties n place no_duty h k) m (at.has h ∙ sym e) in
-      record {
-        duty = is;
-        ask = are place (rw length-take (omega arith)) ∙ ap asked (get_or-take n duties place no_duty h ∙ is);
-      }
-
-module _ {duties : List Duty} {n spoiler stuck i j : ℕ} (x_at : PlaceOf duties n spoiler i)
-    (d_at : PlaceOf duties n stuck j) (asks : List (Option Ask)) (keys sets before : List ℕ) where
-  -- where one of the two is missing, nothing is said
-  pub missing :
-      leb n i || leb n j ≡ true → (after : List ℕ) (r : ℕ)
-      → Walked duties asks n keys sets spoiler stuck before after r
-  missing t after r =
-      λ asked x d are inside unique x_in x-is d_in d_is.
-      absurd
-      (⊎_elim
-      (λ e. x_at.none (leb-true n i e) x x_in x-is)
-      (λ e. d_at.none (leb-true n j e) d d_in d_is)
-      (or_true (leb n i) (leb n j) t))
-
-  abbrev order : List Duty
-  order = by_keys duties n keys
-
-  -- what is asked for the duties is asked for them in the order of the keys
-  asked_in_order :
-      (asked : Duty → Option Ask) → AskedBy asked (take n duties) (length (take n duties)) asks
-      → OfTheFirst duties n keys → AskedInTurn asked order (ask_at asks keys)
-  asked_in_order asked are inside k h =
-      let many = as_many duties n keys in
-      let place = place_in_key (get_or keys k 0) in
-      let within = inside k (omega (arith, many, length-take n keys)) in
-      are place within
-      ∙ ap asked
-      (get_or-take n duties place no_duty (omega (arith, length-take n duties))
-      ∙ sym (at_key duties n keys k (omega arith) (omega arith)))
+module _ (asked : Duty → Option Ask) (pool : List Duty) (x d : Duty) (start : Walk × List ℕ) where
+  abbrev part : Bool → List Duty
+  part late = keep (in_trail late x d) pool
 
   -- the four parts in turn
-  pub walked :
-      leb n i || leb n j ≡ false →
-      let x = get_or duties i no_duty in
-      let d = get_or duties j no_duty in
-      (first second third last : Walk × List ℕ)
-      → PartDone order (ask_at asks keys) (in_trail false x d) (set_out sets before) first
-      → second ≡ do_one (get_or asks i None) first x
-      → PartDone order (ask_at asks keys) (in_trail true x d) second third
-      → last ≡ do_one (get_or asks j None) third d
-      → Walked duties asks n keys sets spoiler stuck before last.1 last.0.length
-  walked f first second third last p q r s =
-      λ asked x d are inside unique x_in x-is d_in d_is.
-      let bounds = or_false (leb n i) (leb n j) f in
-      let at_x = known duties n asks asked are unique _ i x_at (leb-false n i bounds.0) x x_in x-is in
-      let at_d = known duties n asks asked are unique _ j d_at (leb-false n j bounds.1) d d_in d_is in
-      let in_turn = asked_in_order asked are inside in
-      let whole =
-      four_parts
-      asked
-      order
-      x
-      d
-      (set_out sets before)
-      first
-      second
-      third
-      last
-      (rw (at_x.duty, at_d.duty) at (p asked in_turn))
-      (rw (at_x.duty, at_x.ask) at q)
-      (rw (at_x.duty, at_d.duty) at (r asked in_turn))
-      (rw (at_d.duty, at_d.ask) at s) in
-      (ap (λ (w : Walk × List ℕ). w.1) whole, ap (λ (w : Walk × List ℕ). w.0.length) whole)
+  abbrev one_part : Walk × List ℕ
+  one_part = do_all asked start (part false)
+
+  abbrev two_parts : Walk × List ℕ
+  two_parts = do_one (asked x) one_part x
+
+  abbrev three_parts : Walk × List ℕ
+  three_parts = do_all asked two_parts (part true)
+
+  four_parts : do_one (asked d) three_parts d ≡ do_all asked start (trail_of pool x d)
+  unfolding do_all
+  four_parts =
+      sym (do_append asked start (part false) (x ∷ (part true ++ (d ∷ [])))
+      ∙ do_append asked (do_one (asked x) (do_all asked start (part false)) x) (part true) (d ∷ []))
+
+  -- or the walk is stuck after some of them
+  stuck_one : one_part.0.stuck ≡ true → one_part ≡ do_all asked start (trail_of pool x d)
+  stuck_one e =
+      sym (rw (one_stays (asked x) one_part x e, all_stay asked one_part (part true) e) (one_stays (asked d) one_part d e))
+      ∙ four_parts
+
+  stuck_two : two_parts.0.stuck ≡ true → two_parts ≡ do_all asked start (trail_of pool x d)
+  stuck_two e = sym (rw (all_stay asked two_parts (part true) e) (one_stays (asked d) two_parts d e)) ∙ four_parts
+
+  stuck_three : three_parts.0.stuck ≡ true → three_parts ≡ do_all asked start (trail_of pool x d)
+  stuck_three e = sym (one_stays (asked d) three_parts d e) ∙ four_parts
+
+module _ (duties : List Duty) (asks : List (Option Ask)) (keys sets : List ℕ) (spoiler stuck : ℕ) (before : List ℕ)
+  where
+    -- where one of the two is missing, nothing is said
+    pub no_spoiler :
+        {found : Option (Duty × Option Ask)} → Found duties asks spoiler found → found ≡ None
+        → (w : Walk × List ℕ) → Walked duties asks keys sets spoiler stuck before w
+    no_spoiler x_at e w asked x d are inside unique x_in x_is d_in d_is =
+        let missed : Found duties asks spoiler None = rw e at x_at in
+        absurd (missed x x_in x_is)
+
+    pub no_stuck :
+        {found : Option (Duty × Option Ask)} → Found duties asks stuck found → found ≡ None
+        → (w : Walk × List ℕ) → Walked duties asks keys sets spoiler stuck before w
+    no_stuck d_at e w asked x d are inside unique x_in x_is d_in d_is =
+        let missed : Found duties asks stuck None = rw e at d_at in
+        absurd (missed d d_in d_is)
+
+    abbrev order : List Duty
+    order = by_keys duties (length keys) keys
+
+    -- what is asked for the duties is asked for them in the order of the keys
+    asked_in_order :
+        (asked : Duty → Option Ask) → AskedBy asked duties (length duties) asks
+        → OfTheFirst duties (length keys) keys → AskedInTurn asked order (ask_at asks keys)
+    asked_in_order asked are inside k h =
+        let many = as_many duties (length keys) keys in
+        let place = place_in_key (get_or keys k 0) in
+        let within = inside k (omega (arith, many, length-take (length keys) keys)) in
+        are place (omega (arith, length-take (length keys) duties))
+        ∙ ap asked (sym (at_key duties (length keys) keys k (omega arith) (omega arith)))
+
+    -- the duty with a serial is the one found, and so is what is asked for it
+    record Known (asked : Duty → Option Ask) (found : Duty × Option Ask) (y : Duty) : Type 0 where
+      duty : found.0 ≡ y
+      ask : found.1 ≡ asked y
+
+    known :
+        (asked : Duty → Option Ask) → AskedBy asked duties (length duties) asks
+        → ((y z : Duty) → Mem y duties → Mem z duties → y.serial.0 ≡ z.serial.0 → y ≡ z)
+        → {serial : ℕ} {found : Duty × Option Ask} → Found duties asks serial (Some found)
+        → (y : Duty) → Mem y duties → y.serial.0 ≡ serial → Known asked found y
+    known asked are unique {found = found} (place, h, is, ask, named) y m e =
+        let here = rw (take-length duties) at (take_mem duties (length duties) place no_duty h h) in
+        let same = unique found.0 y (rw is here) m (named ∙ sym e) in
+        record { duty = same; ask = ask ∙ are place h ∙ ap asked (sym is ∙ same) }
+
+    module _ {x_found d_found : Duty × Option Ask} (x_at : Found duties asks spoiler (Some x_found))
+        (d_at : Found duties asks stuck (Some d_found)) where
+      abbrev Part : Bool → Walk × List ℕ → Walk × List ℕ → Type 0
+      Part late from to =
+          OfTheFirst duties (length keys) keys
+          → PartDone order (ask_at asks keys) (in_trail late x_found.0 d_found.0) from to
+
+      module _ {first : Walk × List ℕ} (p : Part false (set_out sets before) first) where
+        first_is :
+            (asked : Duty → Option Ask) → AskedBy asked duties (length duties) asks
+            → OfTheFirst duties (length keys) keys → {x d : Duty} → Known asked x_found x → Known asked d_found d
+            → first ≡ one_part asked order x d (set_out sets before)
+        first_is asked are inside at_x at_d =
+            rw (at_x.duty, at_d.duty) at (p inside asked (asked_in_order asked are inside))
+
+        pub stuck_first : first.0.stuck ≡ true → Walked duties asks keys sets spoiler stuck before first
+        stuck_first s asked x d are inside unique x_in x_is d_in d_is =
+            let at_x = known asked are unique x_at x x_in x_is in
+            let at_d = known asked are unique d_at d d_in d_is in
+            let e = first_is asked are inside at_x at_d in
+            e ∙ stuck_one asked order x d (set_out sets before) (rw e at s)
+
+        module _ {second : Walk × List ℕ} (q : second ≡ do_one x_found.1 first x_found.0) where
+          second_is :
+              (asked : Duty → Option Ask) → AskedBy asked duties (length duties) asks
+              → OfTheFirst duties (length keys) keys → {x d : Duty} → Known asked x_found x
+              → Known asked d_found d → second ≡ two_parts asked order x d (set_out sets before)
+          second_is asked are inside at_x at_d =
+              rw (at_x.duty, at_x.ask, first_is asked are inside at_x at_d) at q
+
+          pub stuck_second : second.0.stuck ≡ true → Walked duties asks keys sets spoiler stuck before second
+          stuck_second s asked x d are inside unique x_in x_is d_in d_is =
+              let at_x = known asked are unique x_at x x_in x_is in
+              let at_d = known asked are unique d_at d d_in d_is in
+              let e = second_is asked are inside at_x at_d in
+              e ∙ stuck_two asked order x d (set_out sets before) (rw e at s)
+
+          module _ {third : Walk × List ℕ} (r : Part true second third) where
+            third_is :
+                (asked : Duty → Option Ask) → AskedBy asked duties (length duties) asks
+                → OfTheFirst duties (length keys) keys → {x d : Duty} → Known asked x_found x
+                → Known asked d_found d → third ≡ three_parts asked order x d (set_out sets before)
+            third_is asked are inside at_x at_d =
+                rw
+                (at_x.duty, at_d.duty, second_is asked are inside at_x at_d)
+                at (r inside asked (asked_in_order asked are inside))
+
+            pub stuck_third : third.0.stuck ≡ true → Walked duties asks keys sets spoiler stuck before third
+            stuck_third s asked x d are inside unique x_in x_is d_in d_is =
+                let at_x = known asked are unique x_at x x_in x_is in
+                let at_d = known asked are unique d_at d d_in d_is in
+                let e = third_is asked are inside at_x at_d in
+                e ∙ stuck_three asked order x d (set_out sets before) (rw e at s)
+
+            pub walked :
+                {last : Walk × List ℕ} → last ≡ do_one d_found.1 third d_found.0
+                → Walked duties asks keys sets spoiler stuck before last
+            walked t asked x d are inside unique x_in x_is d_in d_is =
+                let at_x = known asked are unique x_at x x_in x_is in
+                let at_d = known asked are unique d_at d d_in d_is in
+                (rw (at_d.duty, at_d.ask, third_is asked are inside at_x at_d) at t)
+                ∙ four_parts asked order x d (set_out sets before)

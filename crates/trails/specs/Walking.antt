@@ -1,6 +1,6 @@
 -- Doing duties in turn until one is not permitted, and writing their serials. That what is written is the
 -- trail cut after that duty is proved in proofs/Cutting.antt.
-use Rattle.std.specs.Prelude.{◌≡◌, Bool, true, false, not, ◌&&◌, ◌||◌, cond, List, [], ◌∷◌, ◌++◌, map, ℕ, ◌+◌, ◌≤◌, ◌<◌, eqb, leb, length, get_or, set, take, Option, None}
+use Rattle.std.specs.Prelude.{◌≡◌, Bool, true, false, not, ◌&&◌, ◌||◌, cond, List, [], ◌∷◌, ◌++◌, map, ℕ, ◌+◌, ◌≤◌, ◌<◌, eqb, leb, length, get_or, set, take, Option, None, Some, Result, Ok, Err}
 use Rattle.orders.specs.Lists.{Mem, keep}
 use Rattle.roles.specs.Roles.{in_set}
 use Rattle.permitted.specs.Meets.{meets_sets}
@@ -13,7 +13,7 @@ use Rattle.board.specs.Limits.{max_users, max_roles}
 use Rattle.board.specs.Permitted.{changed}
 use Rattle.board.specs.Windows.{wholly_before}
 use Rattle.in_order.specs.InOrder.{place_in_key, by_keys, OfTheFirst}
-use Rattle.trails.specs.declared.Progress.{Progress}
+use Rattle.trails.specs.declared.Stuck.{Stuck}
 
 -- ---- the trail of x and d
 
@@ -36,8 +36,9 @@ pub record Walk : Type 0 where
   pub length : ℕ
   pub stuck : Bool
 
-abbrev pub walking : List ℕ → Progress → List ℕ → Walk × List ℕ
-walking sets p list = (record { holdings = sets; length = p.length; stuck = p.stuck }, list)
+abbrev pub walking : List ℕ → Result ℕ Stuck → List ℕ → Walk × List ℕ
+walking sets (Ok n) list = (record { holdings = sets; length = n; stuck = false }, list)
+walking sets (Err e) list = (record { holdings = sets; length = e.length; stuck = true }, list)
 
 -- the sets of roles meet what is asked of the doer
 abbrev pub meets_ask : List ℕ → ℕ → Option Ask → Bool
@@ -87,11 +88,15 @@ set_out sets list = (record { holdings = sets; length = 0; stuck = false }, list
 
 -- ---- what is written
 
--- The place is that of a duty with this serial, one of the first n; or none of them has it.
-pub record PlaceOf (duties : List Duty) (n serial place : ℕ) : Type 0 where
-  pub room : place < n → place < length duties
-  pub has : place < n → (get_or duties place no_duty).serial.0 ≡ serial
-  pub none : n ≤ place → (y : Duty) → Mem y (take n duties) → y.serial.0 ≡ serial → ⊥
+-- the duty with this serial, and what is asked for it, at its place; or none has the serial
+abbrev pub Found : List Duty → List (Option Ask) → ℕ → Option (Duty × Option Ask) → Type 0
+Found duties asks serial None = (y : Duty) → Mem y duties → y.serial.0 ≡ serial → ⊥
+Found duties asks serial (Some found) =
+    (place : ℕ)
+    × (place < length duties)
+    × (found.0 ≡ get_or duties place no_duty)
+    × (found.1 ≡ get_or asks place None)
+    × (found.0.serial.0 ≡ serial)
 
 -- what each of these duties is to do names a user and a role that a board can have
 abbrev pub InRange : List Duty → Type 0
@@ -100,15 +105,26 @@ InRange l = (y : Duty) → Mem y l → what_fits max_users max_roles y.what ≡ 
 abbrev pub serials : List Duty → List ℕ
 serials l = map (λ (d : Duty). d.serial.0) l
 
--- The trail of x and d was walked, the duties among the first n that have these serials, in the order of the
--- keys: the list is what the walk left in it, and r the number of serials written.
-abbrev pub Walked : List Duty → List (Option Ask) → ℕ → List ℕ → List ℕ → ℕ → ℕ → List ℕ → List ℕ → ℕ → Type 0
-Walked duties asks n keys sets spoiler stuck before after r =
-    let pool = take n duties in
+-- The trail of x and d was walked, the duties that have these serials, in the order of the keys: this is the
+-- walk at its end, with the list.
+abbrev pub Walked :
+    List Duty → List (Option Ask) → List ℕ → List ℕ → ℕ → ℕ → List ℕ → Walk × List ℕ → Type 0
+Walked duties asks keys sets spoiler stuck before w =
     (asked : Duty → Option Ask) (x d : Duty)
-    → AskedBy asked pool (length pool) asks
-    → OfTheFirst duties n keys
-    → ((y z : Duty) → Mem y pool → Mem z pool → y.serial.0 ≡ z.serial.0 → y ≡ z)
-    → Mem x pool → x.serial.0 ≡ spoiler → Mem d pool → d.serial.0 ≡ stuck →
-    let w = do_all asked (set_out sets before) (trail_of (by_keys duties n keys) x d) in
+    → AskedBy asked duties (length duties) asks
+    → OfTheFirst duties (length keys) keys
+    → ((y z : Duty) → Mem y duties → Mem z duties → y.serial.0 ≡ z.serial.0 → y ≡ z)
+    → Mem x duties → x.serial.0 ≡ spoiler → Mem d duties → d.serial.0 ≡ stuck
+    → w ≡ do_all asked (set_out sets before) (trail_of (by_keys duties (length keys) keys) x d)
+
+-- so the list is what the walk left in it, and r the number of serials written
+abbrev pub Written :
+    List Duty → List (Option Ask) → List ℕ → List ℕ → ℕ → ℕ → List ℕ → List ℕ → ℕ → Type 0
+Written duties asks keys sets spoiler stuck before after r =
+    (asked : Duty → Option Ask) (x d : Duty)
+    → AskedBy asked duties (length duties) asks
+    → OfTheFirst duties (length keys) keys
+    → ((y z : Duty) → Mem y duties → Mem z duties → y.serial.0 ≡ z.serial.0 → y ≡ z)
+    → Mem x duties → x.serial.0 ≡ spoiler → Mem d duties → d.serial.0 ≡ stuck →
+    let w = do_all asked (set_out sets before) (trail_of (by_keys duties (length keys) keys) x d) in
     (after ≡ w.1) × (r ≡ w.0.length)

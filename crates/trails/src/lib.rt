@@ -2,32 +2,54 @@
 // cut after the first that is not permitted.
 #![tactic(auto)]
 
-ghost use Rattle.std.specs.Prelude.{◌≡◌};
-ghost use Rattle.in_order.specs.InOrder.{by_keys};
+ghost use Rattle.std.specs.Prelude.{◌≡◌, length, get_or};
+ghost use Rattle.in_order.specs.InOrder.{by_keys, OfTheFirst};
 ghost use Rattle.trails.specs.Walking.{in_trail, meets_ask, walking, do_one};
-ghost use Rattle.trails.specs.Walking.{ask_at, PartDone, PlaceOf, Walked};
+ghost use Rattle.trails.specs.Walking.{ask_at, PartDone, Found, Walked, Written};
 
 use asks::Ask;
 use board::{Board, Duty, Serial};
 
-// How far a walk through duties has come: how many serials are written, and whether a duty was not permitted.
+// The open duties, what is asked for each, and the keys that put them in order of start.
 #[derive(Clone, Copy)]
-struct Progress {
+pub struct Open<'a> {
+    pub duties: &'a [Duty],
+    pub asks: &'a [Option<Ask>],
+    pub keys: &'a [u64],
+}
+
+impl Open<'_> {
+    // What is asked for the duty at a place.
+    fn ask(&self, place: usize) -> Option<Ask>
+        ensures { result ≡ get_or self.now.asks.now place None }
+    {
+        self.asks.get(place).copied().flatten()
+    }
+
+    // The first duty with the serial, and what is asked for it.
+    fn with_serial(&self, serial: Serial) -> Option<(Duty, Option<Ask>)>
+        ensures { Found self.now.duties.now self.now.asks.now serial.0 result }
+    {
+        let place = self.duties.iter().position(|d| d.serial == serial)?;
+        Some((self.duties[place], self.ask(place)))
+    }
+}
+
+// A duty was not permitted; so many serials are written, its own the last.
+#[derive(Clone, Copy)]
+struct Stuck {
     pub length: usize,
-    pub stuck: bool,
 }
 
 // Whether y stands early in the trail of x and d, or between the two.
 fn in_trail(y: Duty, x: Duty, d: Duty, late: bool) -> bool
     ensures { result ≡ in_trail late x d y }
 {
-    let own = y.serial;
-    let other = x.serial;
     if late {
-        return windows::wholly_before(x, y) & windows::wholly_before(y, d);
+        return windows::wholly_before(x, y) && windows::wholly_before(y, d);
     }
-    let low = windows::wholly_before(y, d) | windows::wholly_before(y, x);
-    low & !(windows::wholly_before(x, y) | (own.0 == other.0))
+    (windows::wholly_before(y, d) || windows::wholly_before(y, x))
+        && !(windows::wholly_before(x, y) || y.serial == x.serial)
 }
 
 // Whether the holdings meet what is asked of the doer.
@@ -42,118 +64,97 @@ fn meets_ask(holdings: &[u32; Board::USERS], doer: u16, ask: Option<Ask>) -> boo
     roles::holds(own, ask.actor) & permitted::meets(theirs, ask.wanted, ask.barred)
 }
 
-// Do one duty, if none got stuck so far and the list has room: write its serial, and make its change where
-// it is permitted.
+// Do one duty more, if the list has room at the place behind what is written: write its serial there, and make
+// its change where it is permitted. The next place is answered.
 fn do_one(
     y: Duty,
     ask: Option<Ask>,
-    walk: Progress,
+    at: usize,
     holdings: &mut [u32; Board::USERS],
     list: &mut [u32],
-) -> Progress
+) -> Result<usize, Stuck>
     ensures { walking holdings.new result list.new
-        ≡ do_one ask (walking holdings.old walk list.old) y }
+        ≡ do_one ask (walking holdings.old (Ok at) list.old) y }
 {
-    if walk.stuck | (list.len() <= walk.length) {
-        return walk;
+    if list.len() <= at {
+        return Ok(at);
     }
-    let at = walk.length;
     let next = at + 1;
-    let serial = y.serial;
-    list[at] = serial.0;
-    let permitted = meets_ask(holdings, y.doer, ask);
-    if permitted {
-        let what = y.what;
-        permitted::make_change(holdings, what);
+    list[at] = y.serial.0;
+    if !meets_ask(holdings, y.doer, ask) {
+        return Err(Stuck { length: next });
     }
-    Progress {
-        length: next,
-        stuck: !permitted,
-    }
+    permitted::make_change(holdings, y.what);
+    Ok(next)
 }
 
-// Do those of the duties of the first n keys, in their order, that stand early in the trail of x and d, or
-// between the two.
+// Do those of the duties, in the order of the keys, that stand early in the trail of x and d, or between the
+// two.
 fn do_part(
-    duties: [Duty; Board::DUTIES],
-    asks: [Option<Ask>; Board::DUTIES],
-    keys: &[u64],
-    n: usize,
+    all: Open<'_>,
     x: Duty,
     d: Duty,
     late: bool,
-    walk: Progress,
+    at: usize,
     holdings: &mut [u32; Board::USERS],
     list: &mut [u32],
-) -> Progress
-    ensures { PartDone (by_keys duties n keys.now) (ask_at asks keys.now) (in_trail late x d)
-        (walking holdings.old walk list.old)
+) -> Result<usize, Stuck>
+    ensures { OfTheFirst all.entry.duties.now (length all.entry.keys.now) all.entry.keys.now
+        → PartDone (by_keys all.entry.duties.now (length all.entry.keys.now) all.entry.keys.now)
+        (ask_at all.entry.asks.now all.entry.keys.now) (in_trail late x d)
+        (walking holdings.old (Ok at) list.old)
         (walking holdings.new result list.new) }
 {
-    let mut out = walk;
-    let mut k: usize = 0;
-    while (k < n) & (k < keys.len()) {
-        let place = (keys[k] % Board::DUTIES as u64) as usize;
-        let y = duties[place];
-        if in_trail(y, x, d, late) {
-            let ask = asks[place];
-            let next = do_one(y, ask, out, holdings, list);
-            out = next;
+    let mut next = at;
+    for key in all.keys {
+        let place = (*key % Board::DUTIES as u64) as usize;
+        let Some(y) = all.duties.get(place) else {
+            continue;
+        };
+        if in_trail(*y, x, d, late) {
+            next = do_one(*y, all.ask(place), next, holdings, list)?;
         }
-        k += 1;
     }
-    out
+    Ok(next)
 }
 
-// The first place with the serial among the first n duties; n, if there is none.
-fn place_of(duties: [Duty; Board::DUTIES], n: usize, serial: Serial) -> usize
-    ensures { PlaceOf duties n serial.0 result }
+// Do the trail of the duties with these two serials until one is not permitted.
+fn walk(
+    all: Open<'_>,
+    spoiler: Serial,
+    stuck: Serial,
+    holdings: &mut [u32; Board::USERS],
+    list: &mut [u32],
+) -> Result<usize, Stuck>
+    ensures { Walked all.entry.duties.now all.entry.asks.now all.entry.keys.now holdings.old
+        spoiler.0 stuck.0 list.old (walking holdings.new result list.new) }
 {
-    let mut i: usize = 0;
-    while (i < n) & (i < Board::DUTIES) {
-        let d = duties[i];
-        let own = d.serial;
-        if own.0 == serial.0 {
-            return i;
-        }
-        i += 1;
-    }
-    n
+    let Some((x, x_ask)) = all.with_serial(spoiler) else {
+        return Ok(0);
+    };
+    let Some((d, d_ask)) = all.with_serial(stuck) else {
+        return Ok(0);
+    };
+    let first = do_part(all, x, d, false, 0, holdings, list)?;
+    let second = do_one(x, x_ask, first, holdings, list)?;
+    let third = do_part(all, x, d, true, second, holdings, list)?;
+    do_one(d, d_ask, third, holdings, list)
 }
 
 // Do the trail of the duties with these two serials until one is not permitted: the serials stand at the
-// start of the list, and their number is answered. The first n keys are those of the first n duties, in
-// order of start.
+// start of the list, and their number is answered. The keys are those of the duties, in order of start.
 pub fn write_order(
-    duties: [Duty; Board::DUTIES],
-    asks: [Option<Ask>; Board::DUTIES],
-    keys: &[u64],
-    n: usize,
+    all: Open<'_>,
     spoiler: Serial,
     stuck: Serial,
     holdings: [u32; Board::USERS],
     list: &mut [u32],
 ) -> usize
-    ensures { Walked duties asks n keys.now holdings spoiler.0 stuck.0
-        list.old list.new result }
+    ensures { Written all.entry.duties.now all.entry.asks.now all.entry.keys.now holdings
+        spoiler.0 stuck.0 list.old list.new result }
 {
-    let i = place_of(duties, n, spoiler);
-    let j = place_of(duties, n, stuck);
-    if (n <= i) | (n <= j) {
-        return 0;
-    }
-    let x = duties[i];
-    let d = duties[j];
-    let x_ask = asks[i];
-    let d_ask = asks[j];
     let mut sets = holdings;
-    let start = Progress {
-        length: 0,
-        stuck: false,
-    };
-    let first = do_part(duties, asks, keys, n, x, d, false, start, &mut sets, list);
-    let second = do_one(x, x_ask, first, &mut sets, list);
-    let third = do_part(duties, asks, keys, n, x, d, true, second, &mut sets, list);
-    let last = do_one(d, d_ask, third, &mut sets, list);
-    last.length
+    match walk(all, spoiler, stuck, &mut sets, list) {
+        Ok(length) | Err(Stuck { length }) => length,
+    }
 }

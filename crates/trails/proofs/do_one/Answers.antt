@@ -1,41 +1,18 @@
--- `trails::do_one` meets its contract: a walk that is stuck or has no room stays; else the serial is written,
+-- `trails::do_one` meets its contract: where the list has no room the walk stays; else the serial is written,
 -- and `meets_ask` tells whether the duty is permitted.
-use Prim.Native.Nat.{◌<◌}
-use lib.ListN.{length}
-use borrow.Author.Rules.{rules}
-use borrow.Author.Tests.{leb-false}
-use Rattle.orders.proofs.Tests.{or_false}
+use borrow.Author.Tests.{le-leb, lt-leb}
+use mathlib.Core.Path.{refl}
 use Rattle.trails.specs.Walking.{do_one}
 use Rattle.trails.proofs.do_one.Goals as goal
-use Rattle.trails.proofs.do_one.Goals.{Else-walk-list, then-permitted, else-permitted}
 
--- past the first test, the list has room for the serial
-room :
-    (c : Else-walk-list) →
-    c.args.walk.length < length c.args.list.now
-room c =
-    let walk = c.args.walk in
-    leb-false _ _ (or_false walk.stuck _ c.if-walk-list.false).1
-
-pub returns-then-walk-list : goal.returns-then-walk-list
+pub returns-then-list-at : goal.returns-then-list-at
 unfolding do_one
-returns-then-walk-list c = rw c.if-walk-list.true
+returns-then-list-at c = rw (le-leb _ _ c.if-list-at.true) refl
 
-pub overflow_add-next : goal.overflow_add-next
-overflow_add-next c = let h = room c in search rules
-
-pub offset_bounds-list-at : goal.offset_bounds-list-at
-offset_bounds-list-at c = let h = room (goal.at.offset_bounds-list-at c).Else-walk-list in search rules
-
-pub bounds-list-at : goal.bounds-list-at
-bounds-list-at c = room (goal.at.bounds-list-at c).Else-walk-list
+pub returns-then-not-meets_ask : goal.returns-then-not-meets_ask
+unfolding do_one
+returns-then-not-meets_ask c = rw (lt-leb _ _ c.if-list-at.false, ← c.meets_ask.ensures, c.if-not-meets_ask.true) refl
 
 pub returns : goal.returns
 unfolding do_one
-returns c =
-    let goes_on = (goal.at.returns c).Else-walk-list.if-walk-list.false in
-    let tested = c.meets_ask-permitted.ensures in
-    elim c.if-permitted.branch [
-      | then-permitted w ↦ rw (w.holdings-is, goes_on, ← tested, w.if-permitted.true, w.make_change.ensures)
-      | else-permitted w ↦ rw (w.holdings-is, goes_on, ← tested, w.if-permitted.false)
-    ]
+returns c = rw (lt-leb _ _ c.if-list-at.false, ← c.meets_ask.ensures, c.if-not-meets_ask.false, c.make_change.ensures) refl

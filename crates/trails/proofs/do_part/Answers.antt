@@ -1,59 +1,59 @@
--- `trails::do_part` meets its contract. The loop's invariant: what is left of the order takes the walk to
--- the same end as the whole order does from the start.
-use mathlib.Core.Path.{refl, sym, ◌∙◌}
-use Prim.Native.Nat.{◌<◌}
-use native.Mathlib.Omega.{arith}
-use lib.ListN.{length}
-use borrow.Author.Rules.{rules}
-use Rattle.pool.proofs.Turns.{goes_on, at_end}
-use Rattle.in_order.specs.InOrder.{by_keys}
+-- `trails::do_part` meets its contract: each duty in turn is passed over or done.
+use Rattle.std.proofs.Common.{rules, ◌≡◌, refl, sym, ◌∙◌, ap, ℕ, ◌<◌, ◌≤◌, length, get_or, true, false, Err, Ok, arith}
+use lib.Dec.{ltb}
+use borrow.Author.Tests.{lt-ltb}
+use Rattle.orders.proofs.Tests.{clash}
+use Rattle.board.specs.Filler.{no_duty}
+use Rattle.in_order.specs.InOrder.{place_in_key, by_keys, OfTheFirst}
 use Rattle.in_order.proofs.ByKeys.{as_many, at_key}
-use Rattle.trails.proofs.Walks.{begun, turn_done, turn_skips, part_done}
+use Rattle.trails.specs.Walking.{walking}
+use Rattle.trails.proofs.Walks.{begun, turn_done, turn_skips, turn_stuck, part_done, at_turn}
 use Rattle.trails.proofs.do_part.Goals as goal
-use Rattle.trails.proofs.do_part.Goals.{In-loop-k, then-in_trail, else-in_trail}
+use Rattle.trails.proofs.do_part.Goals.{In-Some, then-in_trail+in_ok-next, else-in_trail}
 
--- in a turn, the key at place k is one of the first n
-within :
-    (c : In-loop-k) →
-    (c.loop-k.k < c.args.n) × (c.loop-k.k < length c.args.keys.now)
-within c =
-    goes_on c.loop-k.k c.args.n (length c.args.keys.now) c.loop-k-test.true
+pub loop-key-init : goal.loop-key-init
+loop-key-init c inside = begun
 
-pub loop-k-init : goal.loop-k-init
-loop-k-init c = (search rules, begun)
+pub loop-key-preserved-in_default : goal.loop-key-preserved-in_default
+loop-key-preserved-in_default c inside =
+    let within = at_turn c.args.all.duties.now c.args.all.keys.now c.loop-key.key-index c.loop-key-test.true inside in
+    absurd (omega (arith, within.1, c.in_default.ensures.lookup.3))
 
-pub offset_bounds-keys-k : goal.offset_bounds-keys-k
-offset_bounds-keys-k c = let h = within (goal.at.offset_bounds-keys-k c).In-loop-k in search rules
+-- in a turn, the duty of the key is the one at its place
+same :
+    (c : In-Some)
+    → get_or c.args.all.duties.now (place_in_key (get_or c.args.all.keys.now c.loop-key.key-index 0)) no_duty
+    ≡ c.in-Some.y.now
+same c = search rules
 
-pub bounds-keys-k : goal.bounds-keys-k
-bounds-keys-k c = let h = within (goal.at.bounds-keys-k c).In-loop-k in search rules
+pub returns-in_err-next : goal.returns-in_err-next
+returns-in_err-next c inside =
+    let p = (goal.at.returns-in_err-next c).In-Some in
+    let k = c.loop-key.key-index in
+    let within = at_turn c.args.all.duties.now c.args.all.keys.now k c.loop-key-test.true inside in
+    let done = rw (c.ask.ensures, c.in_err-next.was) at c.do_one.ensures in
+    let is : c.from_residual.result ≡ Err c.in_err-next.field-0.0 = search rules in
+    rw is (turn_stuck (c.loop-key.invariant inside) within.0 _ (within.2 ∙ same p) (sym c.in_trail.ensures ∙ c.if-in_trail.true) _ done refl)
 
-pub overflow_add-k : goal.overflow_add-k
-overflow_add-k c = let h = within (goal.at.overflow_add-k c).In-loop-k in search rules
-
-pub loop-k-smaller : goal.loop-k-smaller
-loop-k-smaller c = let h = within (goal.at.loop-k-smaller c).In-loop-k in search rules
-
-pub loop-k-preserved : goal.loop-k-preserved
-loop-k-preserved c =
-    let l = c.loop-k in
-    let h = within (goal.at.loop-k-preserved c).In-loop-k in
-    let room : l.k < length (by_keys c.args.duties c.args.n c.args.keys.now) = rw as_many (omega arith) in
-    let is = at_key c.args.duties c.args.n c.args.keys.now l.k h.0 h.1 in
-    let test = sym c.in_trail.ensures in (
-      omega arith,
-      elim c.if-in_trail.branch [
-        | then-in_trail w ↦
-            rw (w.holdings-is, w.list-is, w.out-is)
-            (turn_done l.invariant.1 room _ is (test ∙ w.if-in_trail.true) _ w.do_one-next.ensures)
-        | else-in_trail w ↦
-            rw (w.holdings-is, w.list-is, w.out-is)
-            (turn_skips l.invariant.1 room _ is (test ∙ w.if-in_trail.false))
-      ],
-    )
+pub loop-key-preserved : goal.loop-key-preserved
+loop-key-preserved c inside =
+    let p = (goal.at.loop-key-preserved c).In-Some in
+    let k = c.loop-key.key-index in
+    let within = at_turn c.args.all.duties.now c.args.all.keys.now k c.loop-key-test.true inside in
+    let test = sym c.in_trail.ensures in
+    elim c.if-in_trail.branch [
+      | then-in_trail+in_ok-next w ↦
+          let done = rw (w.ask.ensures, w.in_ok-next.was) at w.do_one.ensures in
+          rw (w.holdings-is, w.list-is, w.next-is)
+          (turn_done (c.loop-key.invariant inside) within.0 _ (within.2 ∙ same p) (test ∙ w.if-in_trail.true) _ done)
+      | else-in_trail w ↦
+          rw (w.holdings-is, w.list-is, w.next-is)
+          (turn_skips (c.loop-key.invariant inside) within.0 _ (within.2 ∙ same p) (test ∙ w.if-in_trail.false))
+    ]
 
 pub returns : goal.returns
-returns c =
-    let l = c.loop-k in
-    let end = at_end c.args.keys.now c.args.n l.k refl c.loop-k-test.false in
-    part_done (rw as_many end) l.invariant.1
+returns c inside =
+    let keys = c.args.all.keys.now in
+    let many = as_many c.args.all.duties.now (length keys) keys in
+    let end = c.loop-key-test.false in
+    part_done (omega (arith, many)) (c.loop-key.invariant inside)
