@@ -1,6 +1,6 @@
 -- Doing duties in turn until one is not permitted, and writing their serials. That what is written is the
 -- trail cut after that duty is proved in proofs/Cutting.antt.
-use Rattle.std.specs.Prelude.{◌≡◌, Bool, true, false, not, ◌&&◌, ◌||◌, cond, List, [], ◌∷◌, ◌++◌, map, ℕ, ◌+◌, ◌≤◌, ◌<◌, eqb, leb, length, get_or, set, take, Option, None, Some, Result, Ok, Err}
+use Rattle.std.specs.Prelude.{◌≡◌, Bool, true, false, not, ◌&&◌, ◌||◌, cond, List, [], ◌∷◌, ◌++◌, map, ℕ, ◌+◌, ◌<◌, eqb, leb, length, get_or, set, Option, None, Some, Result, Ok, Err}
 use Rattle.orders.specs.Lists.{Mem, keep}
 use Rattle.roles.specs.Roles.{in_set}
 use Rattle.permitted.specs.Meets.{meets_sets}

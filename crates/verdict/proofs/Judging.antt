@@ -8,6 +8,7 @@ use Rattle.std.specs.Prelude.{Option, None}
 use Prim.Native.Nat.{ℕ, ◌≤◌, min}
 use native.Mathlib.Omega.{arith}
 use lib.ListN.{length, take, drop, length-map, length-take}
+use lib.Seq.{take-length, length-take-le}
 use Rattle.orders.specs.Lists.{Mem}
 use Rattle.orders.specs.Needs.{Duties}
 use Rattle.orders.specs.Orders.{World, Order, Pool, Failing}
@@ -35,7 +36,8 @@ use Rattle.board.proofs.GoodLaws.{RecordsInRange, good→counts, good→records,
 use Rattle.board.proofs.PoolLaws.{duties_pool}
 use Rattle.in_order.specs.InOrder.{by_keys, InOrder}
 use Rattle.in_order.proofs.Allowed.{rising_order}
-use Rattle.trails.specs.Walking.{serials, InRange, Walked}
+use Rattle.in_order.proofs.ByKeys.{in_order_alone}
+use Rattle.trails.specs.Walking.{serials, InRange, Written}
 use Rattle.trails.proofs.Cutting.{trail_written}
 use Rattle.troubles.specs.Troubles.{Stuck, Troubled}
 use Rattle.quick_criterion.proofs.NotRed.{WithinLimits, good_limits, not_red}
@@ -102,17 +104,17 @@ module _ (b : Board) (sized : Sized b) (is_good : good b ≡ true) where
 
   -- the keys are those of the open duties, in order of start
   module _
-      (keys : List ℕ) (in_order : InOrder b.duties n keys) (x d : Duty) (open_x : Mem x pool)
-      (open_d : Mem d pool) (stuck : StuckBy D s pool d x)
+      (keys : List ℕ) (in_order : InOrder pool (length keys) keys) (all : take (length keys) pool ≡ pool)
+      (x d : Duty) (open_x : Mem x pool) (open_d : Mem d pool) (stuck : StuckBy D s pool d x)
     where
       abbrev o : List Duty
-      o = by_keys b.duties n keys
+      o = by_keys pool (length keys) keys
 
       ordered : Order W pool o
       ordered =
           let windows : (d : Duty) → Mem d pool → d.start ≤ d.end =
           λ d m. (in_range.duties.each d m).window in
-          rising_order v pool o windows pool_right.distinct in_order.same in_order.rise
+          rising_order v pool o windows pool_right.distinct (rw all at in_order.same) in_order.rise
 
       -- the trail of the two, cut after the first duty that is not permitted
       abbrev cut : List Duty
@@ -139,7 +141,7 @@ module _ (b : Board) (sized : Sized b) (is_good : good b ≡ true) where
       order_told :
           (spoiler stuck : ℕ) → x.serial.0 ≡ spoiler → d.serial.0 ≡ stuck → (asks : List (Option Ask))
           → AsksOf v pool (length pool) asks → (before after : List ℕ) (r : ℕ) → max_duties ≤ length before
-          → Walked b.duties asks n keys b.holdings spoiler stuck before after r
+          → Written pool asks keys b.holdings spoiler stuck before after r
           → OrderTold v before after r
       order_told spoiler stuck named_x named_d asks right before after r room walked =
           let long = length-map cut (λ (d : Duty). d.serial.0) in
@@ -158,12 +160,18 @@ module _ (b : Board) (sized : Sized b) (is_good : good b ≡ true) where
   -- as `judge` finds it
   pub found_red :
       (asks : List (Option Ask)) → AsksOf v pool (min (length pool) max_duties) asks → (spoiler stuck : ℕ)
-      → Stuck b.holdings pool asks spoiler stuck → (keys : List ℕ) → InOrder b.duties n keys
+      → Stuck b.holdings pool asks spoiler stuck → (keys : List ℕ) → length keys ≡ max_duties
+      → InOrder pool (min (length pool) max_duties) keys
       → (before after : List ℕ) (k : ℕ) → max_duties ≤ length before
-      → Walked b.duties asks n keys b.holdings spoiler stuck before after k
+      → Written pool asks (take (length pool) keys) b.holdings spoiler stuck before after k
       → OrderTold v before after k
-  found_red asks right spoiler stuck found keys in_order before after k room walked =
+  found_red asks right spoiler stuck found keys long in_order before after k room walked =
       let asked_pool = asked asks right in
-      order_told keys in_order found.x found.d found.open_x (stuck_open found)
+      let most : length pool ≤ max_duties = omega (arith, few, length-take n b.duties) in
+      let whole : min (length pool) max_duties ≡ length pool = omega arith in
+      let fits : length pool ≤ length keys = omega arith in
+      let many = length-take-le (length pool) keys fits in
+      order_told (take (length pool) keys) (in_order_alone keys fits (rw whole at in_order))
+      (rw many (take-length pool)) found.x found.d found.open_x (stuck_open found)
       (stuck_by b.holdings v pool asks asked_pool limits found)
       spoiler stuck (sym found.named_x) (sym found.named_d) asks asked_pool before after k room walked

@@ -11,6 +11,7 @@ ghost use Rattle.verdict.specs.Checked.{Checked};
 ghost use Rattle.verdict.specs.Judging.{Judged};
 
 use board::{Board, Refusal};
+use trails::Open;
 
 // Judge a good board: green at once where no duty is open; where it is red a failing order is written to the
 // start of the list, which has room for it.
@@ -18,27 +19,22 @@ fn judge(b: Board, list: &mut [u32]) -> Result<(), Refusal>
     ensures { good b ≡ true → max_duties ≤ length list.old
         → Judged (view b) list.old list.new result }
 {
+    let duties = b.duties();
     let n = b.counts.duties as usize;
     if n == 0 {
         return Ok(());
     }
-    let duties = b.duties;
-    let holdings = b.holdings;
-    let asks = asks::asks_of(&b, b.duties());
-    let Some(trouble) = troubles::trouble_of(duties, asks, n, &holdings) else {
+    let asks = asks::asks_of(&b, duties);
+    let Some(trouble) = troubles::trouble_of(b.duties, asks, n, &b.holdings) else {
         return Ok(());
     };
-    let keys = in_order::in_order(duties, n);
-    let length = trails::write_order(
+    let keys = in_order::in_order(duties);
+    let all = Open {
         duties,
-        asks,
-        &keys,
-        n,
-        trouble.spoiler,
-        trouble.stuck,
-        holdings,
-        list,
-    );
+        asks: &asks,
+        keys: &keys[..duties.len()],
+    };
+    let length = trails::write_order(all, trouble.spoiler, trouble.stuck, b.holdings, list);
     Err(Refusal::Red { length })
 }
 

@@ -1,12 +1,8 @@
 -- `trails::do_part` meets its contract: each duty in turn is passed over or done.
-use Rattle.std.proofs.Common.{rules, ◌≡◌, refl, sym, ◌∙◌, ap, ℕ, ◌<◌, ◌≤◌, length, get_or, true, false, Err, Ok, arith}
-use lib.Dec.{ltb}
-use borrow.Author.Tests.{lt-ltb}
-use Rattle.orders.proofs.Tests.{clash}
+use Rattle.std.proofs.Common.{rules, ◌≡◌, refl, sym, ◌∙◌, length, get_or, Err, arith}
 use Rattle.board.specs.Filler.{no_duty}
-use Rattle.in_order.specs.InOrder.{place_in_key, by_keys, OfTheFirst}
-use Rattle.in_order.proofs.ByKeys.{as_many, at_key}
-use Rattle.trails.specs.Walking.{walking}
+use Rattle.in_order.specs.InOrder.{place_in_key}
+use Rattle.in_order.proofs.ByKeys.{as_many}
 use Rattle.trails.proofs.Walks.{begun, turn_done, turn_skips, turn_stuck, part_done, at_turn}
 use Rattle.trails.proofs.do_part.Goals as goal
 use Rattle.trails.proofs.do_part.Goals.{In-Some, then-in_trail+in_ok-next, else-in_trail}

@@ -1,8 +1,8 @@
 -- `trails::walk` meets its contract: the four calls do the four parts of the trail, or stop where a duty is
 -- not permitted.
-use Rattle.std.proofs.Common.{rules, ◌≡◌, refl, Err, Ok, Some}
-use Rattle.trails.specs.Walking.{Found, walking}
-use Rattle.trails.proofs.Walks.{no_spoiler, no_stuck, stuck_first, stuck_second, stuck_third, walked}
+use Rattle.std.proofs.Common.{rules, ◌≡◌, refl, Err, Some}
+use Rattle.trails.specs.Walking.{Found}
+use Rattle.trails.proofs.Walks.{stuck_first, stuck_second, stuck_third, walked}
 use Rattle.trails.proofs.walk.Goals as goal
 use Rattle.trails.proofs.walk.Goals.{In-Some-with_serial}
 

@@ -2,6 +2,7 @@
 -- green, and what it finds makes the order that `write_order` walks a failing one.
 use mathlib.Core.Path.{refl}
 use native.Mathlib.Omega.{arith}
+use borrow.Author.Rules.{rules}
 use Rattle.board.proofs.Sized.{sized}
 use Rattle.verdict.proofs.Judging.{nothing_green, none_green, found_red}
 use Rattle.verdict.proofs.judge.Goals as goal
@@ -15,7 +16,7 @@ pub returns-in_default : goal.returns-in_default
 returns-in_default c whole room =
     let nothing = rw c.in_default.is at c.trouble_of.ensures in
     let asks = c.asks_of-asks in
-    let asked = rw c.duties.ensures at (asks.ensures whole) in (
+    let asked = rw c.duties-duties.ensures at (asks.ensures whole) in (
       nothing_green c.args.b (sized c.args.b _ c.well_formed.0) whole asks.result asked nothing,
       refl,
     )
@@ -24,9 +25,9 @@ pub returns : goal.returns
 returns c whole room =
     let found = rw c.in-Some.is at c.trouble_of.ensures in
     let asks = c.asks_of-asks in
-    let asked = rw c.duties.ensures at (asks.ensures whole) in
+    let asked = rw c.duties-duties.ensures at (asks.ensures whole) in
     let order =
     found_red c.args.b (sized c.args.b _ c.well_formed.0) whole asks.result asked
-    c.in-Some.trouble.spoiler.0 c.in-Some.trouble.stuck.0 found c.in_order-keys.result c.in_order-keys.ensures _ _
-    c.write_order-length.result room c.write_order-length.ensures in
+    c.in-Some.trouble.spoiler.0 c.in-Some.trouble.stuck.0 found c.in_order-keys.result (search rules) (rw c.duties-duties.ensures at c.in_order-keys.ensures) _ _
+    c.write_order-length.result room (rw c.duties-duties.ensures at c.write_order-length.ensures) in
     (c.write_order-length.result, (refl, order))

@@ -1,9 +1,7 @@
 -- `Open::with_serial` is right: where no place was found none has the serial.
-use Rattle.std.proofs.Common.{rules, tests, ◌≡◌, ℕ, ◌<◌, true, false, length, None}
+use Rattle.std.proofs.Common.{rules, tests, ◌≡◌, true, false}
 use Rattle.std.proofs.lemmas.Iterator.{YieldsList-from_slice, IsFirst-from_position}
 use lib.Dec.{eqb}
-use borrow.Author.Tests.{eq-eqb}
-use Rattle.orders.proofs.Tests.{clash}
 use Rattle.trails.proofs.Walks.{nowhere}
 use Rattle.trails.proofs.Open.with_serial.Goals as goal
 
