@@ -1,7 +1,9 @@
 -- The loop of `setters_of`: what those of the first i duties set that set a holding stands at the start of
 -- the room, closed up.
-use mathlib.Core.Path.{◌≡◌, refl, sym, ◌∙◌}
-use mathlib.Core.Bool.{Bool, true, false}
+use mathlib.Core.Path.{◌≡◌, refl, sym, ap, ◌∙◌}
+use mathlib.Core.Bool.{Bool, true, false, cond}
+use Rattle.std.specs.Prelude.{Option, None, Some}
+use Rattle.orders.proofs.Tests.{clash}
 use mathlib.Core.List.{List, [], ◌∷◌, map, map-append}
 use Prim.Native.Nat.{ℕ, ◌+◌, ◌≤◌, ◌<◌}
 use native.Mathlib.Numerals.{add-one}
@@ -10,6 +12,24 @@ use lib.ListN.{length, take, get_or, set, length-set}
 use lib.Seq.{take-suc-set}
 use Rattle.orders.specs.Lists.{keep}
 use Rattle.pool.proofs.ClosedUp.{keep_one, keep_none}
+
+-- what is there just where a test passes
+abbrev is_there : {B : Type 0} → Option B → Bool
+is_there None = false
+is_there (Some x) = true
+
+abbrev or_else : {B : Type 0} → B → Option B → B
+or_else z None = z
+or_else z (Some x) = x
+
+pub there_is :
+    {B : Type 0} (b : Bool) (s : B) {x : B} → Some x ≡ cond b (Some s) None → (b ≡ true) × (x ≡ s)
+there_is true s {x = x} e = (refl, ap (or_else x) e)
+there_is false s e = clash refl (ap is_there e)
+
+pub there_is_none : {B : Type 0} (b : Bool) (s : B) → None ≡ cond b (Some s) None → b ≡ false
+there_is_none true s e = clash (ap is_there e) refl
+there_is_none false s e = refl
 
 -- of the first i members of l those that pass stand in `out`, each as f has it, and they are `count`
 pub record Gathered

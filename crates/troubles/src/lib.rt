@@ -7,7 +7,8 @@
 mod pairs;
 mod setting;
 
-ghost use Rattle.std.specs.Prelude.{take};
+ghost use Rattle.std.specs.Prelude.{take, min, length};
+ghost use Rattle.board.specs.Limits.{max_duties};
 ghost use Rattle.troubles.specs.Troubles.{Troubled};
 
 use asks::Ask;
@@ -23,17 +24,19 @@ pub struct Trouble {
     pub stuck: Serial,
 }
 
-// What makes a board red with these holdings: the first n duties, and what is asked for each. The table of
-// mends is made where a setter first spoils a need, and that duty is judged again; many boards need none.
+// What makes a board red with these holdings: the duties, so many as a board has room for, and what is asked
+// for each. The table of mends is made where a setter first spoils a need, and that duty is judged again; many
+// boards need none.
 pub fn trouble_of(
-    duties: [Duty; Board::DUTIES],
-    asks: [Option<Ask>; Board::DUTIES],
-    n: usize,
+    duties: &[Duty],
+    asks: &[Option<Ask>; Board::DUTIES],
     holdings: &[u32; Board::USERS],
 ) -> Option<Trouble>
-    ensures { Troubled holdings.now (take n duties) asks result }
+    ensures { Troubled holdings.now (take (min (length duties.now) max_duties) duties.now) asks.now
+        result }
 {
-    let gathered = setters_of(duties, n);
+    let n = duties.len().min(Board::DUTIES);
+    let gathered = setters_of(&duties[..n]);
     let setters = gathered.all;
     let m = gathered.count;
     let users = users_of(setters, m);
@@ -41,7 +44,7 @@ pub fn trouble_of(
     let mut mends = [LAST_MINUTE; Board::DUTIES];
     let mut made = false;
     let mut i: usize = 0;
-    while (i < n) & (i < Board::DUTIES) {
+    while i < n {
         let d = duties[i];
         let stuck = d.serial;
         let Some(ask) = asks[i] else {

@@ -1,6 +1,6 @@
 // The duties that set a holding, in numbers, and for each the earliest end of a duty that mends what it
 // spoils.
-ghost use Rattle.std.specs.Prelude.{◌≡◌, List, [], ◌∷◌, map, ◌≤◌, length, take};
+ghost use Rattle.std.specs.Prelude.{◌≡◌, List, [], ◌∷◌, map, ◌≤◌, length, take, cond};
 ghost use Rattle.orders.specs.Lists.{keep};
 ghost use Rattle.board.specs.declared.Duty.{Duty};
 ghost use Rattle.board.specs.Limits.{max_duties};
@@ -34,64 +34,33 @@ pub(crate) struct Setters {
 
 // ---- the duties that set a holding
 
-// Whether a duty is a grant or a revoke.
-fn sets_one(d: Duty) -> bool
-    ensures { result ≡ sets_one d }
+// What a duty sets, in numbers, if it is a grant or a revoke.
+fn setter_of(d: &Duty) -> Option<Setter>
+    ensures { result ≡ cond (sets_one d.now) (Some (setter_of d.now)) None }
 {
-    let what = d.what;
-    match what {
-        What::Grant { target: _, role: _ } => true,
-        What::Revoke { target: _, role: _ } => true,
+    let (user, grants, revokes) = match d.what {
+        What::Grant { target, role } => (target, roles::with_role(0, role), 0),
+        What::Revoke { target, role } => (target, 0, roles::with_role(0, role)),
         What::Use {
             action: _,
             object: _,
-        } => false,
-    }
+        } => return None,
+    };
+    Some(Setter {
+        serial: d.serial,
+        user,
+        spare: 0,
+        grants,
+        revokes,
+        start: d.start,
+        end: d.end,
+    })
 }
 
-// What a duty sets, in numbers.
-fn setter_of(d: Duty) -> Setter
-    ensures { result ≡ setter_of d }
-{
-    let serial = d.serial;
-    let what = d.what;
-    match what {
-        What::Grant { target, role } => Setter {
-            serial,
-            user: target,
-            spare: 0,
-            grants: roles::with_role(0, role),
-            revokes: 0,
-            start: d.start,
-            end: d.end,
-        },
-        What::Revoke { target, role } => Setter {
-            serial,
-            user: target,
-            spare: 0,
-            grants: 0,
-            revokes: roles::with_role(0, role),
-            start: d.start,
-            end: d.end,
-        },
-        What::Use {
-            action: _,
-            object: _,
-        } => Setter {
-            serial,
-            user: 0,
-            spare: 0,
-            grants: 0,
-            revokes: 0,
-            start: d.start,
-            end: d.end,
-        },
-    }
-}
-
-// Those of the first n duties that set a holding.
-pub(crate) fn setters_of(duties: [Duty; Board::DUTIES], n: usize) -> Setters
-    ensures { (take result.count result.all ≡ map setter_of (keep sets_one (take n duties)))
+// Those of the duties that set a holding.
+pub(crate) fn setters_of(duties: &[Duty]) -> Setters
+    requires { length duties.now ≤ max_duties }
+    ensures { (take result.count result.all ≡ map setter_of (keep sets_one duties.now))
         × (result.count ≤ max_duties) × (length result.all ≡ max_duties) }
 {
     let filler = Setter {
@@ -105,14 +74,11 @@ pub(crate) fn setters_of(duties: [Duty; Board::DUTIES], n: usize) -> Setters
     };
     let mut all = [filler; Board::DUTIES];
     let mut count: usize = 0;
-    let mut j: usize = 0;
-    while (j < n) & (j < Board::DUTIES) {
-        let d = duties[j];
-        if sets_one(d) {
-            all[count] = setter_of(d);
+    for d in duties {
+        if let Some(x) = setter_of(d) {
+            all[count] = x;
             count += 1;
         }
-        j += 1;
     }
     Setters { all, count }
 }

@@ -83,6 +83,12 @@ module _ (b : Board) (sized : Sized b) (is_good : good b ≡ true) where
       → AsksOf v pool (length pool) asks
   asked asks right i h = right i (omega (arith, few, length-take n b.duties))
 
+  -- there is room for all of them
+  pub whole : take (min (length pool) max_duties) pool ≡ pool
+  whole =
+      let all : min (length pool) max_duties ≡ length pool = omega (arith, few, length-take n b.duties) in
+      rw all (take-length pool)
+
   -- ---- nothing found
 
   pub nothing_green :
@@ -93,7 +99,7 @@ module _ (b : Board) (sized : Sized b) (is_good : good b ≡ true) where
       rw same_state at ((fact D s pool pool_right).decided.1 (not_red b.holdings v pool limits found))
 
   -- where no duty is open none is in trouble
-  pub none_green : n ≡ 0 → Green v
+  pub none_green : length pool ≡ 0 → Green v
   none_green e =
       nothing_green
       []

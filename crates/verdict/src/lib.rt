@@ -20,19 +20,19 @@ fn judge(b: Board, list: &mut [u32]) -> Result<(), Refusal>
         → Judged (view b) list.old list.new result }
 {
     let duties = b.duties();
-    let n = b.counts.duties as usize;
+    let n = duties.len();
     if n == 0 {
         return Ok(());
     }
     let asks = asks::asks_of(&b, duties);
-    let Some(trouble) = troubles::trouble_of(b.duties, asks, n, &b.holdings) else {
+    let Some(trouble) = troubles::trouble_of(duties, &asks, &b.holdings) else {
         return Ok(());
     };
     let keys = in_order::in_order(duties);
     let all = Open {
         duties,
         asks: &asks,
-        keys: &keys[..duties.len()],
+        keys: &keys[..n],
     };
     let length = trails::write_order(all, trouble.spoiler, trouble.stuck, b.holdings, list);
     Err(Refusal::Red { length })

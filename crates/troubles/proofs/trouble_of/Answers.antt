@@ -4,14 +4,13 @@
 use mathlib.Core.Path.{◌≡◌, ap, ◌∙◌}
 use mathlib.Core.Bool.{false}
 use Rattle.std.specs.Prelude.{Some}
-use Prim.Native.Nat.{◌<◌, min}
+use Prim.Native.Nat.{◌<◌, ◌≤◌, min}
 use native.Mathlib.Omega.{arith}
 use lib.ListN.{length, take, get_or}
 use borrow.Author.Rules.{rules}
 use Rattle.orders.specs.Lists.{any}
 use Rattle.board.specs.Filler.{no_duty}
 use Rattle.board.specs.Limits.{max_duties}
-use Rattle.pool.proofs.Turns.{in_turn, at_end}
 use Rattle.quick_criterion.specs.Tests.{can_be_met, makes_wrong}
 use Rattle.troubles.specs.declared.pairs.Reach.{Reach}
 use Rattle.troubles.specs.Reaching.{met_with}
@@ -27,10 +26,8 @@ use Rattle.troubles.proofs.trouble_of.Goals.{then-loop-k-test+then-user-d+then-m
 -- in a turn, the duty at place i is one of the first n
 within :
     (c : In-loop-i) →
-    (c.loop-i.i < min c.args.n (length c.args.duties)) × (length c.args.duties ≡ max_duties)
-within c =
-    let long : length c.args.duties ≡ max_duties = search rules in
-    (in_turn c.args.duties c.args.n c.loop-i.i long c.loop-i-test.true, long)
+    (c.loop-i.i < min c.min-n.result (length c.args.duties.now)) × (c.min-n.result ≤ max_duties)
+within c = (omega (arith, c.min-n.ensures, c.loop-i-test.true), omega (arith, c.min-n.ensures))
 
 pub users_of-users-requires : goal.users_of-users-requires
 users_of-users-requires c = c.setters_of-gathered.ensures.1
@@ -40,7 +37,7 @@ loop-i-init c = (
   search rules,
   ready c.setters_of-gathered.ensures (search rules) c.users_of-users.ensures,
   table_starts (search rules),
-  starts c.args.holdings.now (take c.args.n c.args.duties) c.args.asks,
+  starts c.args.holdings.now (take c.min-n.result c.args.duties.now) c.args.asks.now,
 )
 
 pub offset_bounds-duties-i : goal.offset_bounds-duties-i
@@ -57,7 +54,7 @@ bounds-asks-i c = let h = within (goal.at.bounds-asks-i c).In-loop-i in search r
 
 pub returns-in_default : goal.returns-in_default
 returns-in_default c =
-    unasked _ _ _ _ _ (within (goal.at.returns-in_default c).In-loop-i).0 c.in_default.is
+    rw (← c.min-n.ensures) (unasked _ _ _ _ _ (within (goal.at.returns-in_default c).In-loop-i).0 c.in_default.is)
 
 pub loop-k-init : goal.loop-k-init
 loop-k-init c =
@@ -93,9 +90,10 @@ pub returns-then-made : goal.returns-then-made
 returns-then-made c =
     let known = c.loop-i.invariant in
     let wrong = c.makes_wrong in
-    spoiled _ _ _ _ _ (within (goal.at.returns-then-made c).In-loop-i).0 c.in-Some.is
+    rw (← c.min-n.ensures)
+    (spoiled _ _ _ _ _ (within (goal.at.returns-then-made c).In-loop-i).0 c.in-Some.is
     (spoiler _ known.1 _ _ c.loop-k.invariant c.loop-k-test.true known.2 _ wrong.result wrong.ensures
-    c.if-made.true c.if-makes_wrong.true)
+    c.if-made.true c.if-makes_wrong.true))
 
 pub overflow_add-k : goal.overflow_add-k
 overflow_add-k c = let known = c.loop-i.invariant.1 in search rules
@@ -128,14 +126,14 @@ loop-i-smaller-then-k-m c =
 pub loop-i-preserved-then-k-m : goal.loop-i-preserved-then-k-m
 loop-i-preserved-then-k-m c =
     let known = c.loop-i.invariant in
-    let table = c.mends_of-table.ensures (setters_in (take c.args.n c.args.duties)) known.1.are in
+    let table = c.mends_of-table.ensures (setters_in (take c.min-n.result c.args.duties.now)) known.1.are in
     (known.0, known.1, table_made (search rules) table, known.3)
 
 -- of the duty at place i is known whether it can be met, and that no duty makes a need of it wrong
 judged :
     (c : After-can_be_met) →
-    let pool = take c.args.n c.args.duties in
-    let d = get_or c.args.duties c.loop-i.i no_duty in
+    let pool = take c.min-n.result c.args.duties.now in
+    let d = get_or c.args.duties.now c.loop-i.i no_duty in
     let ask = c.in-Some.ask in
     (can_be_met c.args.holdings.now pool d (Some ask) ≡ c.can_be_met.result)
     × (any (makes_wrong pool d (Some ask)) pool ≡ false)
@@ -158,7 +156,8 @@ judged c =
 pub returns-then-not-can_be_met : goal.returns-then-not-can_be_met
 returns-then-not-can_be_met c =
     let p = goal.at.returns-then-not-can_be_met c in
-    unmet _ _ _ _ _ (within p.In-loop-i).0 c.in-Some.is ((judged p.After-can_be_met).0 ∙ c.if-not-can_be_met.true)
+    rw (← c.min-n.ensures)
+    (unmet _ _ _ _ _ (within p.In-loop-i).0 c.in-Some.is ((judged p.After-can_be_met).0 ∙ c.if-not-can_be_met.true))
 
 pub overflow_add-i : goal.overflow_add-i
 overflow_add-i c = let h = within (goal.at.overflow_add-i c).In-loop-i in search rules
@@ -177,5 +176,4 @@ loop-i-preserved c =
 pub returns : goal.returns
 returns c =
     let l = c.loop-i in
-    let long : length c.args.duties ≡ max_duties = search rules in
-    over _ _ _ _ _ l.invariant.3 (at_end c.args.duties c.args.n l.i long c.loop-i-test.false)
+    rw (← c.min-n.ensures) (over _ _ _ _ _ l.invariant.3 (omega (arith, c.loop-i-test.false)))

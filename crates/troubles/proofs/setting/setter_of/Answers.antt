@@ -1,11 +1,14 @@
 -- `setter_of` is right: in each case it is the definition's own words.
+use mathlib.Core.Path.{refl}
 use Rattle.troubles.proofs.setting.setter_of.Goals as goal
+use Rattle.troubles.proofs.setting.setter_of.Goals.{in-Grant, in-Revoke}
 
-pub returns-in-Grant : goal.returns-in-Grant
-returns-in-Grant c = rw (c.in-Grant.is, c.with_role.ensures)
-
-pub returns-in-Revoke : goal.returns-in-Revoke
-returns-in-Revoke c = rw (c.in-Revoke.is, c.with_role-in-Revoke.ensures)
+pub returns : goal.returns
+returns c =
+    elim c.match-d.branch [
+      | in-Grant w ↦ rw (w.user-is, w.in-Grant.is, w.with_role.ensures) refl
+      | in-Revoke w ↦ rw (w.user-is, w.in-Revoke.is, w.with_role-in-Revoke.ensures) refl
+    ]
 
 pub returns-in-Use : goal.returns-in-Use
-returns-in-Use c = rw c.in-Use.is
+returns-in-Use c = rw c.in-Use.is refl
