@@ -47,7 +47,8 @@ appends = search rules
 pub same_decimal : (n : ℕ) → n < 2 ^ 64 → decimal n ≡ Fmt.decimal n
 unfolding decimal
 same_decimal n h =
-    decimal_from_appends digits appends max_digits n h (length-decimal-le max_digits n (omega arith) (omega arith) h)
+    let short = length-decimal-le max_digits n (omega arith) (omega arith) h in
+    decimal_from_appends digits appends max_digits n h short
 
 -- ---- one more number behind
 

@@ -7,5 +7,6 @@ use Rattle.line.proofs.put_number.Goals as goal
 
 pub returns : goal.returns
 returns c =
-    let digits = c.as_bytes.ensures.value ∙ c.format.ensures.text ∙ sym (same_decimal c.args.n c.ranges.n.fits) in
+    let own = same_decimal c.args.n c.ranges.n.fits in
+    let digits = c.as_bytes.ensures.value ∙ c.format.ensures.text ∙ sym own in
     rw append-nil (writes_then c.put.ensures (rw digits at c.put-2.ensures))
