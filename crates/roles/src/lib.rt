@@ -8,6 +8,7 @@ ghost use Rattle.roles.specs.Roles.{in_set, with_role, without_role};
 pub const WIDTH: u16 = 32;
 
 // Whether the role is in the set.
+#[tactic(auto, using(crate::proofs::Laws::beyond))]
 pub fn holds(set: u32, role: u16) -> bool
     ensures { result ≡ in_set set role }
 {
@@ -19,6 +20,7 @@ pub fn holds(set: u32, role: u16) -> bool
 }
 
 // The set with the role.
+#[tactic(auto, using(crate::proofs::Laws::shifted), unfolding(crate::specs::Roles::with_role))]
 pub fn with_role(set: u32, role: u16) -> u32
     ensures { result ≡ with_role set role }
 {
@@ -30,6 +32,7 @@ pub fn with_role(set: u32, role: u16) -> u32
 }
 
 // The set without the role.
+#[tactic(auto, using(crate::proofs::Laws::shifted), unfolding(crate::specs::Roles::without_role))]
 pub fn without_role(set: u32, role: u16) -> u32
     ensures { result ≡ without_role set role }
 {

@@ -21,7 +21,7 @@ pub record Tests (A : Type 0) : Type 0 where
 unfoldable pub part_good : {A : Type 0} → Tests A → ℕ → List A → Bool
 part_good t count l = g.part_fits t.fits t.below (take count l) && all t.filler (drop count l)
 
--- ---- what a closure answers
+-- ---- what closures answer
 
 -- each call at a reference answers this test of what is there
 abbrev pub Tells : {F A : Type 0} → Shared F (Bor A × Unit {0}) Bool → F → (A → Bool) → Type 0

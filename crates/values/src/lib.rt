@@ -11,7 +11,8 @@ use board::{Board, Duty, Permission, Rule};
 fn part_fits<T, F: Fn(&T) -> bool, G: Fn(&T, &T) -> bool>(used: &[T], fits: F, below: G) -> bool
     requires fits { F.IsAlwaysCallable fits }
     requires below { G.IsAlwaysCallable below }
-    ensures { (f : T → Bool) (r : T → T → Bool) → Tells F.Fn fits f → TellsOfTwo G.Fn below r → result ≡ g.part_fits f r used.now }
+    ensures { (f : T → Bool) (r : T → T → Bool) → Tells F.Fn fits f → TellsOfTwo G.Fn below r
+        → result ≡ g.part_fits f r used.now }
 {
     match used.split_first() {
         Some((first, others)) => {
@@ -37,7 +38,8 @@ fn part_good<T, F: Fn(&T) -> bool, G: Fn(&T, &T) -> bool, H: Fn(&T) -> bool>(
     requires fits { F.IsAlwaysCallable fits }
     requires below { G.IsAlwaysCallable below }
     requires filler { H.IsAlwaysCallable is_filler }
-    ensures { (t : Tests T) → Tells F.Fn fits t.fits → TellsOfTwo G.Fn below t.below → Tells H.Fn is_filler t.filler → result ≡ part_good t count part.now }
+    ensures { (t : Tests T) → Tells F.Fn fits t.fits → TellsOfTwo G.Fn below t.below
+        → Tells H.Fn is_filler t.filler → result ≡ part_good t count part.now }
 {
     let (used, rest) = part.split_at(count.min(part.len()));
     part_fits(used, fits, below) & rest.iter().all(|x| is_filler(x))

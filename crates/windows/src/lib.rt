@@ -24,7 +24,7 @@ pub fn wholly_before(b: Duty, c: Duty) -> bool
 pub fn in_window(clock: u32, d: Duty) -> bool
     ensures { result ≡ in_window clock d }
 {
-    (d.start <= clock) & (clock <= d.end)
+    (d.start..=d.end).contains(&clock)
 }
 
 // Whether a duty's window is over: its end is below the clock.

@@ -15,12 +15,16 @@ returns c =
     let n = b.counts in
     rw (
       c.part_good-holdings.ensures (holding_tests n.roles)
-          (λ x r k. search (rules, tests)) (λ x y r k. search (rules, tests)) (λ x r k. search (rules, tests)),
+          (λ x r k. search (rules, tests)) (λ x y r k. search (rules, tests))
+          (λ x r k. search (rules, tests)),
       c.part_good-permissions.ensures (permission_tests n.roles)
-          (λ x r k. search (rules, tests)) (λ x y r k. search (rules, tests)) (λ x r k. search (rules, tests)),
+          (λ x r k. search (rules, tests)) (λ x y r k. search (rules, tests))
+          (λ x r k. search (rules, tests)),
       c.part_good-rules.ensures (rule_tests n.roles)
-          (λ x r k. search (rules, tests)) (λ x y r k. search (rules, tests)) (λ x r k. search (rules, tests)),
+          (λ x r k. search (rules, tests)) (λ x y r k. search (rules, tests))
+          (λ x r k. search (rules, tests)),
       c.part_good-duties.ensures (duty_tests n b.next.0)
-          (λ x r k. search (rules, tests)) (λ x y r k. search (rules, tests)) (λ x r k. search (rules, tests)),
+          (λ x r k. search (rules, tests)) (λ x y r k. search (rules, tests))
+          (λ x r k. search (rules, tests)),
     )
     (by_parts _ (sym c.counts_fit.ensures ∙ c.if-not-counts_fit.false))

@@ -18,7 +18,7 @@ returns-in-Some g c = λ f r tf tr.
       | then-fits w ↦
           let every : w.all.result ≡ list_all (λ p. f p.1 && r p.0 p.1) (zip c.args.used.now l) =
           all_from_yields_List (λ p. f p.1 && r p.0 p.1) w.all.new.self _ _ w.all.ensures.ran
-          (YieldsList-from_zip (YieldsList-from_slice c.args.used.now cc) (YieldsList-from_slice c.in-Some.others.now cc))
+          (YieldsList-from_zip (YieldsList-from_slice c.args.used.now cc) (YieldsList-from_slice l cc))
           (λ y b q k. (search rules, search (rules, tests))) in
           w.result-is ∙ every ∙ rw (w.if-fits.true, c.in-Some.ensures.cases.0)
       | else-fits w ↦ w.result-is ∙ rw w.if-fits.false

@@ -18,9 +18,12 @@ unfolding part_good
 returns g c = λ t tf tb tz.
     let l = c.args.part.now in
     let n = c.args.count in
-    let used : c.split_at.result.0.now ≡ take n l = c.split_at.ensures.front ∙ rw (c.min.ensures, front n l) in
-    let rest : c.split_at.result.1.now ≡ drop n l = c.split_at.ensures.back ∙ rw (c.min.ensures, back n l) in
+    let used : c.split_at.result.0.now ≡ take n l =
+    c.split_at.ensures.front ∙ rw (c.min.ensures, front n l) in
+    let rest : c.split_at.result.1.now ≡ drop n l =
+    c.split_at.ensures.back ∙ rw (c.min.ensures, back n l) in
     let filled : c.all.result ≡ list_all t.filler (drop n l) =
     all_from_yields_List t.filler c.all.new.self _ _ c.all.ensures.ran
-    (YieldsList-from_slice _ (c.iter.ensures.rest ∙ rest)) (λ x b q k. (search rules, search (rules, tests))) in
+    (YieldsList-from_slice _ (c.iter.ensures.rest ∙ rest))
+    (λ x b q k. (search rules, search (rules, tests))) in
     rw (c.part_fits.ensures t.fits t.below tf tb, used, filled)
