@@ -2,11 +2,11 @@
 -- every order is walked: it is green where no failing order is found.
 use mathlib.Core.Path.{◌≡◌, refl, sym, ap, ◌∙◌}
 use mathlib.Core.Logic.{◌⊎◌, inl, inr}
-use mathlib.Core.Bool.{true, false}
+use mathlib.Core.Bool.{true}
 use Rattle.std.specs.Prelude.{Option, None, Some}
 use Rattle.std.proofs.lemmas.Option.{same_Some, none-some}
 use mathlib.Core.List.{List}
-use Prim.Native.Nat.{ℕ, ◌+◌, ◌<◌, ◌≤◌}
+use Prim.Native.Nat.{ℕ, ◌+◌, ◌≤◌}
 use native.Mathlib.Omega.{arith}
 use lib.ListN.{length}
 use Rattle.orders.specs.Orders.{Pool, Failing}
@@ -44,24 +44,13 @@ module _ (b : Board) (before : List ℕ) where
         otherwise = λ e. (refl, refl);
       }
 
-  pub broken : good b ≡ false → Walks b before before (plain_answer answer.broken)
-  broken e = refused answer.broken (λ e. omega arith) (inl (e, refl))
-
   module _ (whole : good b ≡ true) where
-    pub short : length before < max_duties → Walks b before before (plain_answer answer.list)
-    short h = refused answer.list (λ e. omega arith) (inr (λ e. clash whole e, inl (h, refl)))
-
     module _ (size : Sized b) (room : max_duties ≤ length before) where
       abbrev v : View
       v = view b
 
       abbrev n : ℕ
       n = length v.duties
-
-      pub many : most < n → Walks b before before (plain_answer answer.many)
-      many h =
-          refused answer.many (λ e. omega arith)
-          (inr (λ e. clash whole e, inr (λ e. omega arith, inl (h, refl))))
 
       module _ (few : n ≤ most) where
         passed :
