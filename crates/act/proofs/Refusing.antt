@@ -1,5 +1,5 @@
--- The answers of act's earlier checks, over what the tests before them said: what `permitted` says of the board
--- is what the definition says, so 15 where it says no, and 0 where it says yes.
+-- The answers of act's earlier checks, over what the tests before them said: what `permitted` says of the
+-- board is what the definition says, so 15 where it says no, and 0 where it says yes.
 use Rattle.std.proofs.Common.{◌≡◌, refl, sym, ap, ◌∙◌, inl, inr, Bool, true, false, ℕ, List, [], ◌∷◌}
 use Rattle.orders.specs.Needs.{met}
 use Rattle.orders.proofs.Tests.{clash, and_true}

@@ -1,4 +1,5 @@
--- The checks of do as the code makes them, of the duty d that was found. No promise of the call rests on these words.
+-- The checks of do as the code makes them, of the duty d that was found. No promise of the call rests on
+-- these words.
 use Rattle.std.specs.Prelude.{◌≡◌, true, false, List, [], ◌∷◌, ◌++◌, ℕ}
 use Rattle.orders.specs.Lists.{any}
 use Rattle.board.specs.declared.Board.{Board}

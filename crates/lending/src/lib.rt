@@ -1,11 +1,11 @@
-// What the calls on a lent board share has proofs: see proofs/. The walks of machine code there, and in live and
-// lent_once, are of calls that give what they do in these two plain structs.
+// What the calls on a lent board share has proofs: see proofs/. The walks of machine code there, and in live
+// and lent_once, are of calls that give what they do in these two plain structs.
 #![tactic(auto)]
 
 use board::{Answer, Board};
 
-// What a call by value gives: the answer, whether the call was accepted, and the board: the one after the call,
-// or where it is refused the one given.
+// What a call by value gives: the answer, whether the call was accepted, and the board: the one after the
+// call, or where it is refused the one given.
 #[derive(Clone, Copy)]
 pub struct Outcome {
     pub answer: Answer,

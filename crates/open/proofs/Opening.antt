@@ -60,9 +60,9 @@ module _ (s before : List ℕ) where
     pub not_read :
         (e : Refusal) → Answers (read_checks s) (number_of e) → Opens s before before (opened_by (Err e))
     not_read e a =
-        refused_lem e
-        (never_answered answer.red (read_checks s) (number_of e) (λ d. omega arith) (no_red s) a)
-        (inr (λ h. omega arith, refused_first (read_checks s) (red_check s) (number_of e) (refusal_numbered e) a))
+        let number = number_of e in
+        refused_lem e (never_answered answer.red (read_checks s) number (λ d. omega arith) (no_red s) a)
+        (inr (λ h. omega arith, refused_first (read_checks s) (red_check s) number (refusal_numbered e) a))
 
     -- the file is read, and check answers r on the board that it says
     module _

@@ -1,5 +1,5 @@
--- What `judged` promises settles its outcome, once the failing order is chosen; and what a call by value gives
--- is settled by its answer and the board left, since it is accepted exactly if its number is that of done.
+-- What `judged` promises settles its outcome, once the failing order is chosen; and what a call by value
+-- gives is settled by its answer and the board left: it is accepted exactly if its number is that of done.
 use mathlib.Core.Path.{◌≡◌, refl, sym, ap, ◌∙◌}
 use mathlib.Core.List.{List}
 use Prim.Native.Nat.{ℕ}

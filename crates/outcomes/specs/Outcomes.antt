@@ -17,7 +17,8 @@ use Rattle.outcomes.specs.declared.Accepted.{Accepted}
 abbrev pub answer_of : Result Accepted Refusal → Answer
 answer_of r = answered (λ (accepted : Accepted). done_answer accepted.serial.0) r
 
--- The board value left: an accepted call leaves the board after it, a refused one the board b that it was given.
+-- The board value left: an accepted call leaves the board after it, a refused one the board b that it was
+-- given.
 abbrev pub board_left : Board → Result Accepted Refusal → Board
 board_left b (Ok accepted) = accepted.board
 board_left b (Err e) = b

@@ -1,5 +1,5 @@
-// What an accepted call on the live board gives back, by value; what the calls with a lent list test first; and
-// the board after a call judged, for 8.
+// What an accepted call on the live board gives back, by value; what the calls with a lent list test first;
+// and the board after a call judged, for 8.
 #![tactic(auto)]
 
 ghost use Rattle.std.specs.Prelude.{◌≡◌, true};

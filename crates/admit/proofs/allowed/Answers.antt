@@ -9,8 +9,8 @@ use Rattle.admit.proofs.allowed.Goals as goal
 use Rattle.admit.proofs.allowed.Goals.{Else-not-doing_fits, Else-not-window_fits, Else-over}
 
 fits : (c : Else-not-doing_fits)
-    → doing_fits c.args.b.now.counts.users c.args.b.now.counts.roles c.args.q.doer c.args.q.action c.args.q.first
-    c.args.q.second
+    → doing_fits c.args.b.now.counts.users c.args.b.now.counts.roles c.args.q.doer c.args.q.action
+    c.args.q.first c.args.q.second
     ≡ true
 fits c = sym c.doing_fits.ensures ∙ c.if-not-doing_fits.false
 

@@ -55,7 +55,8 @@ returns-in_default c =
 pub returns-in_err-in_time : goal.returns-in_err-in_time
 returns-in_err-in_time c =
     let here = (goal.at.returns-in_err-in_time c).In-Some in
-    let p = err_from_is_err_and c.from_residual-in_err-in_time.result c.from_residual-in_err-in_time.ensures.1 in
+    let from = c.from_residual-in_err-in_time in
+    let p = err_from_is_err_and from.result from.ensures.1 in
     let told : Answers (time_checks c.duties-duties.result.now c.in-Some.d c.args.q.clock)
     (number_of c.in_err-in_time.field-0.0) = c.in_err-in_time.ensures in
     rw (p.1, p.2)

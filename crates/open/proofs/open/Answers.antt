@@ -1,5 +1,6 @@
--- `open::open` meets its contract: a short list proves by itself; each other answer is one of proofs/Opening.antt.
--- That the list has room is left to arithmetic: a test of something else is refused with the numbers that show it.
+-- `open::open` meets its contract: a short list proves by itself; each other answer is one of
+-- proofs/Opening.antt. That the list has room is left to arithmetic: a test of something else is refused with
+-- the numbers that show it.
 use mathlib.Core.Path.{refl}
 use native.Mathlib.Omega.{arith}
 use Rattle.std.proofs.lemmas.Result.{err_from_is_err_and}
@@ -13,7 +14,8 @@ returns-in_err-board c =
 
 pub returns-in_err-check_good : goal.returns-in_err-check_good
 returns-in_err-check_good c =
-    let p = err_from_is_err_and c.from_residual-in_err-check_good.result c.from_residual-in_err-check_good.ensures.1 in
+    let from = c.from_residual-in_err-check_good in
+    let p = err_from_is_err_and from.result from.ensures.1 in
     let read = c.in_ok-board.ensures in
     rw (p.1, p.2)
     (opened_red _ _ (omega arith) _ _ read.number (read.accepted refl) _ c.in_err-check_good.ensures)
