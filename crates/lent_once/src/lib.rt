@@ -1,6 +1,7 @@
 // The lent calls run on a board by value: the board goes into a local, which is lent to the call, and what
 // the call left in it is given back beside its result. So a program runs the lent calls without lending a
-// board itself.
+// board itself. Each lends a local of its own: one function over the call would need that call's promise as a
+// parameter, and its contract would say less plainly what the five say here.
 #![tactic(auto)]
 
 ghost use Rattle.board.specs.Answers.{done_answer};

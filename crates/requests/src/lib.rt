@@ -43,6 +43,9 @@ pub struct RequestWithdraw {
     pub clock: u32,
 }
 
+// Doer, action, first and second stand one by one in both requests, since callers build a request field by
+// field from the numbers of a record: a struct of the four would be taken apart again at each use.
+//
 // Whether doer, action, first and second are in their ranges, and the second of a use is 0.
 pub fn doing_fits(counts: Counts, doer: u16, action: u16, first: u16, second: u16) -> bool
     ensures { result ≡ doing_fits counts.users counts.roles doer action first second }
