@@ -110,7 +110,7 @@ pub fn permitted(b: &Board, doer: u16, what: What) -> bool
 fn put_set(holdings: &mut [u32; Board::USERS], user: u16, new: u32)
     ensures { holdings.new ≡ set holdings.old user new }
 {
-    // A write through `get_mut` says nothing of the table once the loan is over, so the contract did not prove.
+    // By `get_mut` the contract did not prove: nothing is known of the table once such a loan is over.
     let place = user as usize;
     if place < holdings.len() {
         holdings[place] = new;

@@ -1,5 +1,5 @@
--- The loop of `walk_rest` over the duties: nothing was found with one of those so far in front, so what is left
--- of the pool finds what the whole pool finds, and the list is as it was.
+-- The loop of `walk_rest` over the duties: nothing was found with one of those so far in front, so what is
+-- left of the pool finds what the whole pool finds, and the list is as it was.
 use mathlib.Core.Path.{◌≡◌, refl, sym, ap}
 use mathlib.Core.Bool.{Bool, not, cond}
 use Rattle.std.specs.Prelude.{Option, Some}

@@ -47,7 +47,9 @@ module _ {A : Type 0} {filler : A} {room i count : ℕ} {kept out : List A}
   written d h e =
       record {
         few = omega (arith, known.few);
-        is = rw (known.is, known.counted, e, more) (set-append_seam kept filler behind d ∙ sym (append_assoc kept (d ∷ []) behind));
+        is =
+            rw (known.is, known.counted, e, more)
+            (set-append_seam kept filler behind d ∙ sym (append_assoc kept (d ∷ []) behind));
         counted = rw (e, known.counted) (sym (length-append kept (d ∷ [])));
       }
     where

@@ -37,7 +37,8 @@ pub fn is_held_back(duties: &[Duty], d: Duty) -> bool
 // Of the duties, as many as the room holds, those but the one with the serial, closed up; the rest of the
 // room is filler.
 pub fn without_serial(duties: &[Duty], serial: Serial) -> Rest
-    ensures { (result.duties ≡ padded no_duty max_duties (without_serial serial.0 (take max_duties duties.now)))
+    ensures { (result.duties
+        ≡ padded no_duty max_duties (without_serial serial.0 (take max_duties duties.now)))
         × (result.count ≡ length (without_serial serial.0 (take max_duties duties.now))) }
 {
     let mut left = [Duty::filler(); Board::DUTIES];

@@ -6,8 +6,8 @@ use std::io;
 // No more orders are printed; the rest is only counted.
 pub(crate) const MOST_LINES: u32 = 5000;
 
-// The duties done so far, told by their serials: so many at the start of a room that is never too small, since
-// no more duties are walked. It is of fixed size: nothing here allocates.
+// The duties done so far, told by their serials: so many at the start of a room that is never too small,
+// since no more duties are walked. It is of fixed size: nothing here allocates.
 #[derive(Clone, Copy)]
 pub(crate) struct Order {
     room: [u32; plain::MOST],

@@ -1,5 +1,5 @@
--- `walk_rest` ends since one duty fewer is left at each call of itself. The loop's invariant: the duties so far
--- are tried, nothing was found with one of them in front, and the list is as it was.
+-- `walk_rest` ends since one duty fewer is left at each call of itself. The loop's invariant: the duties so
+-- far are tried, nothing was found with one of them in front, and the list is as it was.
 use Rattle.plain.proofs.Turns.{Tried}
 use Rattle.plain.proofs.+walk_rest.Given as goal
 

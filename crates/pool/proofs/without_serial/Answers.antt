@@ -21,14 +21,15 @@ pub loop-d-preserved : goal.loop-d-preserved
 loop-d-preserved c =
     let known = c.loop-d.invariant in
     let few = take c.min.result c.args.duties.now in
-    let more : c.loop-d.d-index < length few = c.loop-d-test.true in
+    let i = c.loop-d.d-index in
+    let more : i < length few = c.loop-d-test.true in
     let fits : c.loop-d.count < max_duties = search rules in
     elim c.if-ne.branch [
       | then-ne w ↦
-          let other : not (named c.args.serial.0 (get_or few c.loop-d.d-index no_duty)) ≡ true = search rules in
+          let other : not (named c.args.serial.0 (get_or few i no_duty)) ≡ true = search rules in
           rw (w.left-is, w.count-is) (written known _ fits (keep_one _ few _ no_duty more other))
       | else-ne w ↦
-          let same : not (named c.args.serial.0 (get_or few c.loop-d.d-index no_duty)) ≡ false = search rules in
+          let same : not (named c.args.serial.0 (get_or few i no_duty)) ≡ false = search rules in
           rw (w.left-is, w.count-is) (passed_over known (keep_none _ few _ no_duty more same))
     ]
 

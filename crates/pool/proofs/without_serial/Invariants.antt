@@ -8,4 +8,6 @@ use Rattle.pool.proofs.ClosedUp.{ClosedUp}
 use Rattle.pool.proofs.without_serial.Given as goal
 
 abbrev pub invariant-loop-d : goal.invariant-loop-d
-invariant-loop-d l = ClosedUp no_duty max_duties l.d-index (without_serial l.serial.0 (take l.d-index l.few)) l.left l.count
+invariant-loop-d l =
+    let others = without_serial l.serial.0 (take l.d-index l.few) in
+    ClosedUp no_duty max_duties l.d-index others l.left l.count
