@@ -11,3 +11,9 @@ HasRoom n w = w.at + n ≤ length w.room.now
 pub record Writes (bytes : List ℕ) (before after : Writer) : Type 0 where
   pub same_room : after.room.ghost_name ≡ before.room.ghost_name
   pub put : Put bytes before.room.now before.at after.room.now after.at
+
+-- nothing is put, and the writer stays at its place
+pub record WritesNothing (before after : Writer) : Type 0 where
+  pub same_room : after.room.ghost_name ≡ before.room.ghost_name
+  pub room : after.room.now ≡ before.room.now
+  pub place : after.at ≡ before.at

@@ -2,7 +2,7 @@
 #![tactic(auto)]
 
 ghost use Rattle.std.specs.Prelude.{length};
-ghost use Rattle.put.specs.Writes.{HasRoom, Writes};
+ghost use Rattle.put.specs.Writes.{HasRoom, Writes, WritesNothing};
 
 // A room, and the place in it where the next bytes go.
 #[derive(Drop)]
@@ -12,13 +12,16 @@ pub struct Writer<'a> {
 }
 
 impl Writer<'_> {
-    // Put bytes at the place; the next go after them.
+    // Put bytes at the place; the next go after them. Bytes that have no room there are not put.
     pub fn put(&mut self, bytes: &[u8])
-        requires { HasRoom (length bytes.now) self.old }
-        ensures { Writes bytes.now self.old self.new }
+        ensures written { HasRoom (length bytes.now) self.old → Writes bytes.now self.old self.new }
+        ensures no_room { (HasRoom (length bytes.now) self.old → ⊥) → WritesNothing self.old self.new }
     {
-        let next = self.at + bytes.len();
-        self.room[self.at..next].copy_from_slice(bytes);
-        self.at = next;
+        let left = self.room.len().saturating_sub(self.at);
+        if self.at <= self.room.len() && bytes.len() <= left {
+            let next = self.at + bytes.len();
+            self.room[self.at..next].copy_from_slice(bytes);
+            self.at = next;
+        }
     }
 }

@@ -7,15 +7,20 @@ use Rattle.put.proofs.WriteLaws.{writes_then}
 use Rattle.line.proofs.NumberLaws.{numbers_length}
 use Rattle.line.proofs.put_line.Goals as goal
 
-pub put_numbers-requires : goal.put_numbers-requires
-put_numbers-requires c = omega (arith, numbers_length (c.args.number ∷ []))
+pub put_number-requires : goal.put_number-requires
+put_number-requires c = let word = c.put.ensures.written (omega arith) in omega arith
 
-pub put-requires-2 : goal.put-requires-2
-put-requires-2 c =
-    omega (arith, numbers_length (c.args.number ∷ []), numbers_length c.args.list.now)
+pub put_numbers-requires : goal.put_numbers-requires
+put_numbers-requires c =
+    let word = c.put.ensures.written (omega arith) in
+    omega (arith, numbers_length (c.args.number ∷ []))
 
 pub returns : goal.returns
 returns c =
+    let word = c.put.ensures.written (omega arith) in
     let all = writes_then c.put_number.ensures c.put_numbers.ensures in
-    let line = writes_then c.put.ensures (writes_then all c.put-2.ensures) in
+    let number = numbers_length (c.args.number ∷ []) in
+    let list = numbers_length c.args.list.now in
+    let end = c.put-2.ensures.written (omega (arith, number, list)) in
+    let line = writes_then word (writes_then all end) in
     rw (append-nil (decimal c.args.number)) at line.put
