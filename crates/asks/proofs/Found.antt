@@ -3,7 +3,7 @@
 use mathlib.Core.Path.{◌≡◌, refl, sym, ◌∙◌, ap}
 use mathlib.Core.Logic.{⊎_elim}
 use mathlib.Core.Bool.{Bool, true, false, ◌&&◌}
-use mathlib.Core.List.{List, [], ◌∷◌}
+use mathlib.Core.List.{List, [], ◌∷◌, map}
 use Rattle.std.specs.Prelude.{Option, None, Some, Result, Ok, Err}
 use Rattle.std.specs.declared.cmp.Ordering.{Ordering}
 use Rattle.std.specs.List.Sorted.{IsSearchInRange, IsBinarySearchResult, IsNonDecreasingBy}
@@ -12,7 +12,7 @@ use Rattle.std.specs.Result.{result_ok}
 use Rattle.std.proofs.lemmas.Bool.Decides.{nat_tests}
 use Rattle.std.proofs.lemmas.Cmp.{ranked}
 use Rattle.std.proofs.lemmas.List.Sorted.{IsNonDecreasingBy-from_default}
-use Prim.Native.Nat.{ℕ, zero, suc, ◌≤◌, ◌<◌}
+use Prim.Native.Nat.{ℕ, zero, suc, ◌-◌, ◌≤◌, ◌<◌}
 use native.Mathlib.Nat.{le_of_suc-le-suc, not-suc-le-zero}
 use native.Mathlib.Omega.{arith}
 use lib.Dec.{eqb, ltb}
@@ -21,8 +21,9 @@ use lib.Seq.{take-length}
 use borrow.Author.Tests.{eqb-true, eq-eqb, ltb-true, ltb-false}
 use Rattle.orders.specs.Lists.{Mem, here, there, find, Pairwise}
 use Rattle.orders.proofs.Tests.{by_test, clash, is_false, and_left, and_right, and_both, or_true}
-use Rattle.orders.proofs.Loops.{take_mem, mem_take}
+use Rattle.orders.proofs.Loops.{take_mem, mem_take, get_d_map}
 use Rattle.board.specs.Good.{pair_below}
+use Rattle.asks.specs.Halved.{Halved}
 use Rattle.asks.specs.Keys.{span, key_of, Rising}
 
 -- a place of a list has a member
@@ -85,9 +86,6 @@ module _ {A : Type 0} (first second : A → ℕ) (a b : ℕ) where
   find_nowhere [] f = refl
   find_nowhere (x ∷ l) f = rw (f x (here refl)) (find_nowhere l (λ y m. f y (there m)))
 
-  abbrev compared : A → Ordering
-  compared x = nat_cmp (key_by x) (key_of a b)
-
   rising_keys : (l : List A) → Rising first second l → (i j : ℕ) (z : A) → i < j → j < length l → key_by (get_or l i z) < key_by (get_or l j z)
   rising_keys [] known i j z h k = absurd (not-suc-le-zero k)
   rising_keys (x ∷ l) known i zero z h k = absurd (not-suc-le-zero h)
@@ -96,23 +94,18 @@ module _ {A : Type 0} (first second : A → ℕ) (a b : ℕ) where
   rising_keys (x ∷ l) known (suc i) (suc j) z h k =
       rising_keys l (record { small = λ w m. known.small w (there m); rise = known.rise.1 }) i j z (le_of_suc-le-suc h) (le_of_suc-le-suc k)
 
-  comparisons_rise : (l : List A) → Rising first second l → (z : A) → IsNonDecreasingBy (λ x. ordering_index (compared x)) l
-  comparisons_rise l known z =
-      IsNonDecreasingBy-from_default (λ x. ordering_index (compared x)) l z
-      (λ i j le in_range.
-      let keys_rise : key_by (get_or l i z) ≤ key_by (get_or l j z) =
-      grind (arith, rising_keys l known i j z, λ (same : i ≡ j). ap (λ (k : ℕ). key_by (get_or l k z)) same) in
-      grind (arith, nat_tests))
+  module _ (l : List A) (known : Rising first second l) (small : b < span) (z : A) {at : ℕ}
+      (halved : Halved (map key_by l) (length l) (key_of a b) at) where
+    key_at : (i : ℕ) → i < length l → get_or (map key_by l) i 0 ≡ key_by (get_or l i z)
+    key_at i h = get_d_map key_by l i 0 z h
 
-  module _ (l : List A) (known : Rising first second l) (small : b < span) (z : A) where
-    -- what a search by halving for the key answers is what is found
-    pub found :
-        (r : Result ℕ ℕ) → IsSearchInRange r (length l) → IsBinarySearchResult compared l r
-        → {answer : Option ℕ} → answer ≡ result_ok r → find has_both l ≡ found_at l z answer
-    found (Ok at) inside equal e =
-        let same = ranked (key_by (get_or l at z)) (key_of a b) _ (sym (equal z)) in
-        rw e (find_at l known at z inside (same_key small (get_or l at z) (known.small _ (at_place l at z inside)) same))
-    found (Err at) inside parted e = rw e (find_nowhere l missed)
+    -- the record at the place is the one that is found,
+    pub found_there : at < length l → key_by (get_or l at z) ≡ key_of a b → find has_both l ≡ Some (get_or l at z)
+    found_there h e = find_at l known at z h (same_key small (get_or l at z) (known.small _ (at_place l at z h)) e)
+
+    -- and where its key is another, or there is none, nothing is found
+    pub found_nowhere : (at < length l → key_by (get_or l at z) ≡ key_of a b → ⊥) → find has_both l ≡ None
+    found_nowhere other = find_nowhere l missed
       where
         missed : (x : A) → Mem x l → has_both x ≡ false
         missed x m =
@@ -123,5 +116,18 @@ module _ {A : Type 0} (first second : A → ℕ) (a b : ℕ) where
             let same = ap key_by is ∙ both x t in
             by_test
             (ltb j at)
-            (λ e. let less = ranked (key_by (get_or l j z)) (key_of a b) _ (sym ((parted (comparisons_rise l known z)).0 j z (omega arith) (ltb-true j at e))) in omega arith)
-            (λ e. let more = ranked (key_by (get_or l j z)) (key_of a b) _ (sym ((parted (comparisons_rise l known z)).1 j z (ltb-false j at e) h)) in omega arith))
+            (λ e.
+            let inside = halved.inside in
+            let less = rw (key_at (at - 1) (omega (arith, ltb-true j at e))) at (halved.lower (at - 1) (omega (arith, ltb-true j at e))) in
+            by_test
+            (ltb j (at - 1))
+            (λ f. let up = rising_keys l known j (at - 1) z (ltb-true j (at - 1) f) (omega (arith, ltb-true j at e)) in omega arith)
+            (λ f. let here : j ≡ at - 1 = omega (arith, ltb-true j at e, ltb-false j (at - 1) f) in omega (arith, rw here at same)))
+            (λ e.
+            let before = ltb-false j at e in
+            let in_list : at < length l = omega arith in
+            let most = rw (key_at at in_list) at (halved.higher in_list) in
+            by_test
+            (ltb at j)
+            (λ f. let up = rising_keys l known at j z (ltb-true at j f) h in omega arith)
+            (λ f. let here : j ≡ at = omega (arith, ltb-false at j f) in absurd (other in_list (rw here at same)))))

@@ -1,2 +1,3 @@
 pub mod Found
 pub mod Asking
+pub mod Halving

@@ -1,31 +1,46 @@
--- `by_rule` is right: what the search by halving answers is what `find` does.
-use Rattle.std.proofs.Common.{◌≡◌, refl, rules, ℕ, Option, arith}
-use Rattle.std.proofs.lemmas.List.Sorted.{answers_always}
-use Rattle.std.specs.Result.{result_ok}
-use Rattle.orders.specs.Lists.{find}
+-- `by_rule` is right: the record at the place found by halving is the one that `find` finds, if it has the key.
+use Rattle.std.proofs.Common.{rules, ◌≡◌, refl, sym, ◌∙◌, ap, ℕ, ◌<◌, length, get_or, Some, None, arith}
 use Rattle.board.specs.Filler.{no_rule}
 use Rattle.board.specs.Permitted.{governs}
-use Rattle.asks.specs.Keys.{key_of, Rising}
-use Rattle.asks.proofs.Found.{found_at, found}
+use Rattle.orders.specs.Lists.{find}
+use Rattle.asks.specs.Keys.{Rising, rule_key}
+use Rattle.asks.proofs.Found.{found_there, found_nowhere}
 use Rattle.asks.proofs.by_rule.Goals as goal
-use Rattle.asks.proofs.by_rule.Goals.{After-binary_search_by_key}
+use Rattle.asks.proofs.by_rule.Goals.{After-place, After-key}
 
-answered :
-    (c : After-binary_search_by_key) → Rising (λ r. r.kind) (λ r. r.role) c.args.rules.now
-    → {at : Option ℕ} → at ≡ result_ok c.binary_search_by_key.result
-    → find (governs c.args.kind c.args.role) c.args.rules.now ≡ found_at c.args.rules.now no_rule at
-answered c rising e =
-    let search_is = c.binary_search_by_key.ensures in
-    let by_key = search_is.position (λ r. key_of r.kind r.role) (answers_always _ _ _ (λ f a r g called. search rules)) in
-    found (λ r. r.kind) (λ r. r.role) c.args.kind c.args.role c.args.rules.now rising (omega arith) no_rule
-    c.binary_search_by_key.result search_is.bound (rw c.key-sought.ensures at by_key) e
+-- where the record at the place, if there is one, has another key, none is found
+missed :
+    (c : After-place) → Rising (λ r. r.kind) (λ r. r.role) c.args.rules.now
+    → (c.place.result < length c.args.rules.now
+    → rule_key (get_or c.args.rules.now c.place.result no_rule) ≡ c.joined-sought.result → ⊥)
+    → find (governs c.args.kind c.args.role) c.args.rules.now ≡ None
+missed c rising other =
+    found_nowhere (λ r. r.kind) (λ r. r.role) c.args.kind c.args.role c.args.rules.now rising (omega arith) no_rule
+    (rw c.joined-sought.ensures at c.place.ensures) (rw c.joined-sought.ensures at other)
 
-pub returns-in_err-at : goal.returns-in_err-at
-returns-in_err-at c rising =
-    rw
-    (answered (goal.at.returns-in_err-at c).After-binary_search_by_key rising (c.in_err-at.ensures).value)
-    c.from_residual.ensures
+-- the record read is the one at the place
+same : (c : After-key) → rule_key (get_or c.args.rules.now c.place.result no_rule) ≡ c.key.result
+same c =
+    let read : c.in_ok-rule.rule.now ≡ get_or c.args.rules.now c.place.result no_rule = search rules in
+    ap rule_key (sym read) ∙ sym c.key.ensures
+
+pub returns-in_err-rule : goal.returns-in_err-rule
+returns-in_err-rule c rising =
+    let p = (goal.at.returns-in_err-rule c).After-place in
+    rw (missed p rising (λ h e. absurd (omega (arith, c.in_err-rule.ensures.lookup.3)))) c.from_residual.ensures
+
+pub returns-then-key-sought : goal.returns-then-key-sought
+returns-then-key-sought c rising =
+    let p = goal.at.returns-then-key-sought c in
+    rw (missed p.After-place rising (λ h e. c.if-key-sought.true (sym (same p.After-key) ∙ e))) refl
 
 pub returns : goal.returns
 returns c rising =
-    rw (answered (goal.at.returns c).After-binary_search_by_key rising (c.in_ok-at.ensures).value) refl
+    let p = goal.at.returns c in
+    let read : c.in_ok-rule.rule.now ≡ get_or c.args.rules.now c.place.result no_rule = search rules in
+    let inside : c.place.result < length c.args.rules.now = search rules in
+    let key = same p.After-key ∙ c.if-key-sought.false ∙ c.joined-sought.ensures in
+    let found =
+    found_there (λ r. r.kind) (λ r. r.role) c.args.kind c.args.role c.args.rules.now rising (omega arith) no_rule
+    (rw c.joined-sought.ensures at c.place.ensures) inside key in
+    rw (found ∙ ap (λ r. Some r) (sym read)) refl
