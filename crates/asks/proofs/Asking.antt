@@ -1,13 +1,14 @@
 -- On a good board both kinds of records rise, so what is found is what is asked; and so for one duty after the
 -- other.
-use mathlib.Core.Path.{◌≡◌, refl, ◌∙◌}
+use mathlib.Core.Path.{◌≡◌, refl, ◌∙◌, ap}
 use mathlib.Core.Bool.{true}
-use mathlib.Core.List.{List}
+use mathlib.Core.List.{List, map}
 use Rattle.std.specs.Prelude.{Option, None, Some}
-use Prim.Native.Nat.{ℕ, ◌+◌, ◌<◌}
+use Prim.Native.Nat.{ℕ, ◌+◌, ◌≤◌, ◌<◌, min}
 use native.Mathlib.Omega.{arith}
+use Rattle.std.proofs.lemmas.List.{length-take, take_all}
 use lib.Dec.{eqb}
-use lib.ListN.{length, get_or, set, replicate, length-set, length-replicate}
+use lib.ListN.{length, get_or, take, set, replicate, length-set, length-replicate}
 use lib.Seq.{get_or-set_same, get_or-set_other}
 use borrow.Author.Tests.{eqb-true, eqb-false}
 use Rattle.orders.proofs.Tests.{by_test}
@@ -35,6 +36,14 @@ module _ (b : Board) (g : good b ≡ true) where
       let counts = good→counts b g in
       let part = (records→range (view b) (good→records b g)).rules in
       record { small = λ r m. let range = part.each r m in omega arith; rise = part.rise }
+
+-- where there is room for the keys of all records, they are those of all
+pub all_keys :
+    {A : Type 0} (key : A → ℕ) (l : List A) (keys : List ℕ) {records : List A} {n room many : ℕ} → records ≡ take n l → n ≤ room
+    → take (min (length records) room) keys ≡ map key (take room records) → many ≡ min (length records) room
+    → take many keys ≡ map key (take n l)
+all_keys key l keys {records} {n} {room} is few known e =
+    rw (e, known, take_all room records (omega (arith, ap length is, length-take n l))) (ap (map key) is)
 
 -- a rule asks the same whoever the doer is
 pub whoever :

@@ -1,26 +1,20 @@
 -- What a search by halving answers is what `find` does: where records rise by a pair of numbers, so do their
 -- keys, and a record with the sought pair stands at no other place.
-use mathlib.Core.Path.{◌≡◌, refl, sym, ◌∙◌, ap}
+use mathlib.Core.Path.{◌≡◌, refl, ◌∙◌, ap}
 use mathlib.Core.Logic.{⊎_elim}
 use mathlib.Core.Bool.{Bool, true, false, ◌&&◌}
 use mathlib.Core.List.{List, [], ◌∷◌, map}
-use Rattle.std.specs.Prelude.{Option, None, Some, Result, Ok, Err}
-use Rattle.std.specs.declared.cmp.Ordering.{Ordering}
-use Rattle.std.specs.List.Sorted.{IsSearchInRange, IsBinarySearchResult, IsNonDecreasingBy}
-use Rattle.std.specs.Ordering.{nat_cmp, ordering_index}
-use Rattle.std.specs.Result.{result_ok}
-use Rattle.std.proofs.lemmas.Bool.Decides.{nat_tests}
-use Rattle.std.proofs.lemmas.Cmp.{ranked}
-use Rattle.std.proofs.lemmas.List.Sorted.{IsNonDecreasingBy-from_default}
-use Prim.Native.Nat.{ℕ, zero, suc, ◌-◌, ◌≤◌, ◌<◌}
+use Rattle.std.specs.Prelude.{Option, None, Some}
+use Rattle.std.proofs.lemmas.List.{length-map}
+use Prim.Native.Nat.{ℕ, zero, suc, ◌-◌, ◌<◌}
 use native.Mathlib.Nat.{le_of_suc-le-suc, not-suc-le-zero}
 use native.Mathlib.Omega.{arith}
 use lib.Dec.{eqb, ltb}
 use lib.ListN.{length, get_or}
 use lib.Seq.{take-length}
 use borrow.Author.Tests.{eqb-true, eq-eqb, ltb-true, ltb-false}
-use Rattle.orders.specs.Lists.{Mem, here, there, find, Pairwise}
-use Rattle.orders.proofs.Tests.{by_test, clash, is_false, and_left, and_right, and_both, or_true}
+use Rattle.orders.specs.Lists.{Mem, here, there, find}
+use Rattle.orders.proofs.Tests.{by_test, is_false, and_left, and_right, and_both, or_true}
 use Rattle.orders.proofs.Loops.{take_mem, mem_take, get_d_map}
 use Rattle.board.specs.Good.{pair_below}
 use Rattle.asks.specs.Halved.{Halved}
@@ -95,7 +89,11 @@ module _ {A : Type 0} (first second : A → ℕ) (a b : ℕ) where
       rising_keys l (record { small = λ w m. known.small w (there m); rise = known.rise.1 }) i j z (le_of_suc-le-suc h) (le_of_suc-le-suc k)
 
   module _ (l : List A) (known : Rising first second l) (small : b < span) (z : A) {at : ℕ}
-      (halved : Halved (map key_by l) (length l) (key_of a b) at) where
+      {keys : List ℕ} (are : keys ≡ map key_by l) {sought : ℕ} (is_key : sought ≡ key_of a b)
+      (search_is : Halved keys (length keys) sought at) where
+    halved : Halved (map key_by l) (length l) (key_of a b) at
+    halved = rw (are, length-map l key_by, is_key) at search_is
+
     key_at : (i : ℕ) → i < length l → get_or (map key_by l) i 0 ≡ key_by (get_or l i z)
     key_at i h = get_d_map key_by l i 0 z h
 

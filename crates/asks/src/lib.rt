@@ -2,7 +2,7 @@
 // of each, since both rise on a good board.
 #![tactic(auto)]
 
-ghost use Rattle.std.specs.Prelude.{◌≡◌, true, ◌≤◌, ℕ, min, length, map};
+ghost use Rattle.std.specs.Prelude.{◌≡◌, true, ◌≤◌, ℕ, min, length, map, take};
 ghost use Rattle.orders.specs.Lists.{find};
 ghost use Rattle.board.specs.Good.{good};
 ghost use Rattle.board.specs.Limits.{max_duties};
@@ -55,18 +55,30 @@ impl Keyed for Rule {
     }
 }
 
+// The keys of the records that there is room for, one after the other from the first place on.
+fn keys<T: Keyed, const N: usize>(records: &[T]) -> [u32; N]
+    ensures { take (min (length records.now) N) result ≡ map T.key (take N records.now) }
+{
+    let mut keys = [0; N];
+    let count = records.len().min(N);
+    for (i, record) in records[..count].iter().enumerate() {
+        keys[i] = record.key();
+    }
+    keys
+}
+
 // The place that the key sought has or would have, where the keys rise. Each turn halves what is left, whichever
-// way it goes, so that no turn is a branch that cannot be foreseen: on a board of 128 different uses the
-// library's binary search takes half more time for a check.
-fn place<T: Keyed>(records: &[T], sought: u32) -> usize
-    ensures { Halved (map T.key records.now) (length records.now) sought result }
+// way it goes, so that no turn is a branch that cannot be foreseen: by the library's binary search a check of a
+// board of 128 different uses takes 1.5 times as long.
+fn key_place(keys: &[u32], sought: u32) -> usize
+    ensures { Halved keys.now (length keys.now) sought result }
 {
     let mut low = 0;
-    let mut left = records.len();
+    let mut left = keys.len();
     while left > 0 {
         let half = left - left / 2;
         let next = low + half;
-        if records[next - 1].key() < sought {
+        if keys[next - 1] < sought {
             low = next;
         }
         left -= half;
@@ -74,13 +86,19 @@ fn place<T: Keyed>(records: &[T], sought: u32) -> usize
     low
 }
 
-// What the permission for the action on the object asks, if there is one among permissions that rise.
-fn by_permission(permissions: &[Permission], doer: u16, action: u16, object: u16) -> Option<Ask>
-    ensures { Rising (λ p. p.action) (λ p. p.object) permissions.now
+// What the permission for the action on the object asks, if there is one among permissions that rise by the keys.
+fn by_permission(
+    permissions: &[Permission],
+    keys: &[u32],
+    doer: u16,
+    action: u16,
+    object: u16,
+) -> Option<Ask>
+    ensures { Rising (λ p. p.action) (λ p. p.object) permissions.now → keys.now ≡ map permission_key permissions.now
         → result ≡ in_one_form doer (by_permission (find (is_for action object) permissions.now)) }
 {
     let sought = joined(action, object);
-    let permission = permissions.get(place(permissions, sought))?;
+    let permission = permissions.get(key_place(keys, sought))?;
     if permission.key() != sought {
         return None;
     }
@@ -92,13 +110,13 @@ fn by_permission(permissions: &[Permission], doer: u16, action: u16, object: u16
     })
 }
 
-// What the rule of the kind and for the role asks, if there is one among rules that rise.
-fn by_rule(rules: &[Rule], kind: u16, target: u16, role: u16) -> Option<Ask>
-    ensures { Rising (λ r. r.kind) (λ r. r.role) rules.now
+// What the rule of the kind and for the role asks, if there is one among rules that rise by the keys.
+fn by_rule(rules: &[Rule], keys: &[u32], kind: u16, target: u16, role: u16) -> Option<Ask>
+    ensures { Rising (λ r. r.kind) (λ r. r.role) rules.now → keys.now ≡ map rule_key rules.now
         → result ≡ in_one_form target (by_rule target (find (governs kind role) rules.now)) }
 {
     let sought = joined(kind, role);
-    let rule = rules.get(place(rules, sought))?;
+    let rule = rules.get(key_place(keys, sought))?;
     if rule.key() != sought {
         return None;
     }
@@ -110,14 +128,17 @@ fn by_rule(rules: &[Rule], kind: u16, target: u16, role: u16) -> Option<Ask>
     })
 }
 
-// What is asked for the duty, on a good board.
-fn ask_of(b: &Board, d: &Duty) -> Option<Ask>
-    ensures { good b.now ≡ true → result ≡ ask_of (view b.now) d.now }
+// What is asked for the duty, on a good board whose permissions and rules have the keys.
+fn ask_of(b: &Board, actions: &[u32], kinds: &[u32], d: &Duty) -> Option<Ask>
+    ensures { good b.now ≡ true → actions.now ≡ map permission_key (view b.now).permissions
+        → kinds.now ≡ map rule_key (view b.now).rules → result ≡ ask_of (view b.now) d.now }
 {
     match d.what {
-        What::Grant { target, role } => by_rule(b.rules(), 0, target, role),
-        What::Revoke { target, role } => by_rule(b.rules(), 1, target, role),
-        What::Use { action, object } => by_permission(b.permissions(), d.doer, action, object),
+        What::Grant { target, role } => by_rule(b.rules(), kinds, 0, target, role),
+        What::Revoke { target, role } => by_rule(b.rules(), kinds, 1, target, role),
+        What::Use { action, object } => {
+            by_permission(b.permissions(), actions, d.doer, action, object)
+        }
     }
 }
 
@@ -126,10 +147,16 @@ pub fn asks_of(b: &Board, duties: &[Duty]) -> [Option<Ask>; Board::DUTIES]
     ensures { good b.now ≡ true
         → AsksOf (view b.now) duties.now (min (length duties.now) max_duties) result }
 {
+    let permissions = b.permissions();
+    let rules = b.rules();
+    let action_keys: [u32; Board::PERMISSIONS] = keys(permissions);
+    let kind_keys: [u32; Board::RULES] = keys(rules);
+    let actions = &action_keys[..permissions.len().min(Board::PERMISSIONS)];
+    let kinds = &kind_keys[..rules.len().min(Board::RULES)];
     let mut asks = [None; Board::DUTIES];
     let count = duties.len().min(Board::DUTIES);
     for (i, d) in duties[..count].iter().enumerate() {
-        asks[i] = ask_of(b, d);
+        asks[i] = ask_of(b, actions, kinds, d);
     }
     asks
 }
