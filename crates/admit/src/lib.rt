@@ -32,7 +32,7 @@ fn duty_asked(q: RequestAdmit, serial: Serial) -> Duty
 }
 
 // What is tested before the board after is judged: 19, 9, 10, 11, 7, 21, 16, 17.
-#[tactic(auto, using(crate::proofs::Refusing::not_ready, crate::proofs::Refusing::answers_11))]
+#[tactic(auto, using(crate::proofs::Refusing::not_ready, crate::proofs::Refusing::answers_11, crate::proofs::Refusing::answers_16))]
 fn allowed(b: &Board, room: usize, q: RequestAdmit) -> Result<(), Refusal>
     ensures { Answers (admit_earlier b.now room q) (number_answered result) }
 {

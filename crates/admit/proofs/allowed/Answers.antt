@@ -1,10 +1,10 @@
--- `admit::allowed` meets its contract: 19, 9, 10 and 11 prove by themselves.
+-- `admit::allowed` meets its contract: 19, 9, 10, 11 and 16 prove by themselves.
 use mathlib.Core.Path.{◌≡◌, sym, ap, ◌∙◌}
 use mathlib.Core.Bool.{true, false}
 use lib.ListN.{length}
 use Rattle.board.specs.Windows.{window_fits, is_over}
 use Rattle.requests.specs.Requests.{doing_fits}
-use Rattle.admit.proofs.Refusing.{answers_7, answers_21, answers_16, answers_17, answers_0}
+use Rattle.admit.proofs.Refusing.{answers_7, answers_21, answers_17, answers_0}
 use Rattle.admit.proofs.allowed.Goals as goal
 use Rattle.admit.proofs.allowed.Goals.{Else-not-doing_fits, Else-not-window_fits, Else-over}
 
@@ -32,13 +32,6 @@ returns-then-over c =
     (fits (goal.at.returns-then-over c).Else-not-doing_fits) _ c.duty_asked-d.ensures
     (window (goal.at.returns-then-over c).Else-not-window_fits)
     (sym c.is_over-over.ensures ∙ c.if-over.true)
-
-pub returns-then-full : goal.returns-then-full
-returns-then-full c =
-    let at = goal.at.returns-then-full c in
-    answers_16 c.args.b.now c.args.room c.args.q c.in_ok-ready.ensures (fits at.Else-not-doing_fits) _
-    c.duty_asked-d.ensures (window at.Else-not-window_fits) (before at.Else-over)
-    (sym (ap length c.duties.ensures) ∙ c.if-full.true)
 
 pub returns-then-b : goal.returns-then-b
 returns-then-b c =
