@@ -39,7 +39,8 @@ pub struct Permission {
 }
 
 // Who holds the actor role may assign (kind 0) or revoke (kind 1) the role for a target that holds every
-// wanted role and no barred one.
+// wanted role and no barred one. The kind is a number, since a board value may hold any, and 19 (`rule_fits`
+// of specs/Good) is answered to one that is neither.
 #[derive(Clone, Copy, PartialEq, Eq)]
 pub struct Rule {
     pub kind: u16,

@@ -1,5 +1,5 @@
-// What the calls on a lent board share has proofs: see proofs/. The walks of machine code there, and in live
-// and lent_once, are of calls that give what they do in these two plain structs.
+// What the calls on a lent board share has proofs: see proofs/. The walks there and in lent_once, `layer` and
+// `runs_once`, are theorems about calls that give what they do in these two plain structs.
 #![tactic(auto)]
 
 use board::{Answer, Board};

@@ -13,7 +13,8 @@ use board::{Board, Refusal, Serial};
 // A pool of more duties is not walked.
 pub const MOST: usize = 8;
 
-// Put a serial into the list at a place. Nothing stands beyond its end.
+// Put a serial into the list at a place. Nothing stands beyond its end. A write through `get_mut` says
+// nothing of the list once the loan is over, so the place is tested.
 fn put(list: &mut [u32], at: usize, serial: Serial)
     ensures { list.new ≡ set list.old at serial.0 }
 {

@@ -16,7 +16,8 @@ fn byte(s: &[u8], at: usize) -> u8
     s.get(at).copied().unwrap_or(0)
 }
 
-// The number in two bytes.
+// The number in two bytes. Two bytes and four are read by a function each, since the library's reading takes
+// an array of another type for each: it is no plainer over a length, whose clause cannot name the number.
 fn two_at(s: &[u8], at: usize) -> u16
     requires { at < 254 }
     ensures { result ≡ two s.now at }

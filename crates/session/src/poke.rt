@@ -1,5 +1,6 @@
 // Poke: one number of the live board is set, for tests of 19 and of red boards. A place past the array, and a
-// first that names no number, change nothing.
+// first that names no number, change nothing. The numbers of `first` are those of the record's bytes, and
+// stand here alone.
 ghost use Rattle.std.specs.Prelude.{◌≡◌, ◌%◌};
 ghost use Rattle.session.specs.Pokes.{poked_board};
 
