@@ -3,7 +3,6 @@ use Rattle.std.specs.Prelude.{Bool, cond, List, [], ◌∷◌}
 pub use mathlib.Core.List.Memᴰ.{head as here}
 pub use mathlib.Core.List.Memᴰ.{tail as there}
 pub use mathlib.Core.List.{Memᴰ as Mem}
-
 -- some member passes the test; every member does; the first member that does
 pub use Rattle.std.specs.List.{list_any as any, list_all as all, find}
 
