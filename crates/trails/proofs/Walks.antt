@@ -38,7 +38,8 @@ pub one_stays : (ask : Option Ask) (w : Walk × List ℕ) (y : Duty) → w.0.stu
 unfolding do_one
 one_stays ask w y e = rw e refl
 
-pub all_stay : (asked : Duty → Option Ask) (w : Walk × List ℕ) (l : List Duty) → w.0.stuck ≡ true → do_all asked w l ≡ w
+pub all_stay :
+    (asked : Duty → Option Ask) (w : Walk × List ℕ) (l : List Duty) → w.0.stuck ≡ true → do_all asked w l ≡ w
 unfolding do_all
 all_stay asked w [] e = refl
 all_stay asked w (y ∷ l) e = rw (one_stays (asked y) w y e) (all_stay asked w l e)
@@ -145,17 +146,20 @@ module _ (asked : Duty → Option Ask) (pool : List Duty) (x d : Duty) (start : 
   -- or the walk is stuck after some of them
   stuck_one : one_part.0.stuck ≡ true → one_part ≡ do_all asked start (trail_of pool x d)
   stuck_one e =
-      sym (rw (one_stays (asked x) one_part x e, all_stay asked one_part (part true) e) (one_stays (asked d) one_part d e))
+      sym
+      (rw (one_stays (asked x) one_part x e, all_stay asked one_part (part true) e)
+      (one_stays (asked d) one_part d e))
       ∙ four_parts
 
   stuck_two : two_parts.0.stuck ≡ true → two_parts ≡ do_all asked start (trail_of pool x d)
-  stuck_two e = sym (rw (all_stay asked two_parts (part true) e) (one_stays (asked d) two_parts d e)) ∙ four_parts
+  stuck_two e =
+      sym (rw (all_stay asked two_parts (part true) e) (one_stays (asked d) two_parts d e)) ∙ four_parts
 
   stuck_three : three_parts.0.stuck ≡ true → three_parts ≡ do_all asked start (trail_of pool x d)
   stuck_three e = sym (one_stays (asked d) three_parts d e) ∙ four_parts
 
-module _ (duties : List Duty) (asks : List (Option Ask)) (keys sets : List ℕ) (spoiler stuck : ℕ) (before : List ℕ)
-  where
+module _ (duties : List Duty) (asks : List (Option Ask)) (keys sets : List ℕ) (spoiler stuck : ℕ)
+    (before : List ℕ) where
     -- where one of the two is missing, nothing is said
     pub no_spoiler :
         {found : Option (Duty × Option Ask)} → Found duties asks spoiler found → found ≡ None
@@ -210,7 +214,8 @@ module _ (duties : List Duty) (asks : List (Option Ask)) (keys sets : List ℕ) 
       module _ {first : Walk × List ℕ} (p : Part false (set_out sets before) first) where
         first_is :
             (asked : Duty → Option Ask) → AskedBy asked duties (length duties) asks
-            → OfTheFirst duties (length keys) keys → {x d : Duty} → Known asked x_found x → Known asked d_found d
+            → OfTheFirst duties (length keys) keys → {x d : Duty} → Known asked x_found x
+            → Known asked d_found d
             → first ≡ one_part asked order x d (set_out sets before)
         first_is asked are inside at_x at_d =
             rw (at_x.duty, at_d.duty) at (p inside asked (asked_in_order asked are inside))

@@ -1,6 +1,7 @@
 -- Doing duties in turn until one is not permitted, and writing their serials. That what is written is the
 -- trail cut after that duty is proved in proofs/Cutting.antt.
-use Rattle.std.specs.Prelude.{◌≡◌, Bool, true, false, not, ◌&&◌, ◌||◌, cond, List, [], ◌∷◌, ◌++◌, map, ℕ, ◌+◌, ◌<◌, eqb, leb, length, get_or, set, Option, None, Some, Result, Ok, Err}
+use Rattle.std.specs.Prelude.{◌≡◌, Bool, true, false, not, ◌&&◌, ◌||◌, cond, Option, None, Some, Result, Ok, Err}
+use Rattle.std.specs.Prelude.{List, [], ◌∷◌, ◌++◌, map, ℕ, ◌+◌, ◌<◌, eqb, leb, length, get_or, set}
 use Rattle.orders.specs.Lists.{Mem, keep}
 use Rattle.roles.specs.Roles.{in_set}
 use Rattle.permitted.specs.Meets.{meets_sets}
@@ -80,7 +81,8 @@ AskedInTurn asked order asks = (k : ℕ) → k < length order → asks k ≡ ask
 -- those duties of an order that pass the test were done
 abbrev pub PartDone : List Duty → (ℕ → Option Ask) → (Duty → Bool) → Walk × List ℕ → Walk × List ℕ → Type 0
 PartDone order asks passes before after =
-    (asked : Duty → Option Ask) → AskedInTurn asked order asks → after ≡ do_all asked before (keep passes order)
+    (asked : Duty → Option Ask) → AskedInTurn asked order asks
+    → after ≡ do_all asked before (keep passes order)
 
 -- a walk from these sets of roles
 abbrev pub set_out : List ℕ → List ℕ → Walk × List ℕ

@@ -64,8 +64,8 @@ fn meets_ask(holdings: &[u32; Board::USERS], doer: u16, ask: Option<Ask>) -> boo
     roles::holds(own, ask.actor) & permitted::meets(theirs, ask.wanted, ask.barred)
 }
 
-// Do one duty more, if the list has room at the place behind what is written: write its serial there, and make
-// its change where it is permitted. The next place is answered.
+// Do one duty more, if the list has room at the place behind what is written: write its serial there, and
+// make its change where it is permitted. The next place is answered.
 fn do_one(
     y: Duty,
     ask: Option<Ask>,

@@ -11,8 +11,10 @@ returns-then-list-at c = rw (le-leb _ _ c.if-list-at.true) refl
 
 pub returns-then-not-meets_ask : goal.returns-then-not-meets_ask
 unfolding do_one
-returns-then-not-meets_ask c = rw (lt-leb _ _ c.if-list-at.false, ← c.meets_ask.ensures, c.if-not-meets_ask.true) refl
+returns-then-not-meets_ask c =
+    rw (lt-leb _ _ c.if-list-at.false, ← c.meets_ask.ensures, c.if-not-meets_ask.true) refl
 
 pub returns : goal.returns
 unfolding do_one
-returns c = rw (lt-leb _ _ c.if-list-at.false, ← c.meets_ask.ensures, c.if-not-meets_ask.false, c.make_change.ensures) refl
+returns c =
+    rw (lt-leb _ _ c.if-list-at.false, ← c.meets_ask.ensures, c.if-not-meets_ask.false, c.make_change.ensures) refl

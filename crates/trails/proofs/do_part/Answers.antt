@@ -12,7 +12,8 @@ loop-key-init c inside = begun
 
 pub loop-key-preserved-in_default : goal.loop-key-preserved-in_default
 loop-key-preserved-in_default c inside =
-    let within = at_turn c.args.all.duties.now c.args.all.keys.now c.loop-key.key-index c.loop-key-test.true inside in
+    let within =
+    at_turn c.args.all.duties.now c.args.all.keys.now c.loop-key.key-index c.loop-key-test.true inside in
     absurd (omega (arith, within.1, c.in_default.ensures.lookup.3))
 
 -- in a turn, the duty of the key is the one at its place
@@ -29,7 +30,9 @@ returns-in_err-next c inside =
     let within = at_turn c.args.all.duties.now c.args.all.keys.now k c.loop-key-test.true inside in
     let done = rw (c.ask.ensures, c.in_err-next.was) at c.do_one.ensures in
     let is : c.from_residual.result ≡ Err c.in_err-next.field-0.0 = search rules in
-    rw is (turn_stuck (c.loop-key.invariant inside) within.0 _ (within.2 ∙ same p) (sym c.in_trail.ensures ∙ c.if-in_trail.true) _ done refl)
+    rw is
+    (turn_stuck (c.loop-key.invariant inside) within.0 _ (within.2 ∙ same p)
+    (sym c.in_trail.ensures ∙ c.if-in_trail.true) _ done refl)
 
 pub loop-key-preserved : goal.loop-key-preserved
 loop-key-preserved c inside =
@@ -41,10 +44,12 @@ loop-key-preserved c inside =
       | then-in_trail+in_ok-next w ↦
           let done = rw (w.ask.ensures, w.in_ok-next.was) at w.do_one.ensures in
           rw (w.holdings-is, w.list-is, w.next-is)
-          (turn_done (c.loop-key.invariant inside) within.0 _ (within.2 ∙ same p) (test ∙ w.if-in_trail.true) _ done)
+          (turn_done (c.loop-key.invariant inside) within.0 _ (within.2 ∙ same p)
+          (test ∙ w.if-in_trail.true) _ done)
       | else-in_trail w ↦
           rw (w.holdings-is, w.list-is, w.next-is)
-          (turn_skips (c.loop-key.invariant inside) within.0 _ (within.2 ∙ same p) (test ∙ w.if-in_trail.false))
+          (turn_skips (c.loop-key.invariant inside) within.0 _ (within.2 ∙ same p)
+          (test ∙ w.if-in_trail.false))
     ]
 
 pub returns : goal.returns

@@ -12,4 +12,5 @@ invariant-loop-key l =
     let start = walking l.initial.holdings (Ok l.initial.next) l.initial.list in
     let keys = l.all.keys.now in
     OfTheFirst duties (length keys) keys
-    → Passed (by_keys duties (length keys) keys) (ask_at l.all.asks.now keys) (in_trail l.late l.x l.d) start (walking l.holdings (Ok l.next) l.list) l.key-index
+    → Passed (by_keys duties (length keys) keys) (ask_at l.all.asks.now keys) (in_trail l.late l.x l.d) start
+    (walking l.holdings (Ok l.next) l.list) l.key-index

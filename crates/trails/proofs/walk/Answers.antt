@@ -45,4 +45,5 @@ pub returns : goal.returns
 returns c =
     let p = (goal.at.returns c).In-Some-with_serial in
     walked _ _ _ _ _ _ _ (found_x p) (found_d p) (rw c.in_ok-first.was at c.do_part.ensures)
-    (rw c.in_ok-second.was at c.do_one.ensures) (rw c.in_ok-third.was at c.do_part-2.ensures) c.do_one-2.ensures
+    (rw c.in_ok-second.was at c.do_one.ensures) (rw c.in_ok-third.was at c.do_part-2.ensures)
+    c.do_one-2.ensures

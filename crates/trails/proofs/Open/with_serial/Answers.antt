@@ -8,7 +8,9 @@ use Rattle.trails.proofs.Open.with_serial.Goals as goal
 pub returns-in_err-place : goal.returns-in_err-place
 returns-in_err-place c =
     let first =
-    IsFirst-from_position _ _ _ (λ d. eqb d.serial.0 c.args.serial.0 ≡ true) (λ d. eqb d.serial.0 c.args.serial.0 ≡ false)
+    IsFirst-from_position _ _ _
+    (λ d. eqb d.serial.0 c.args.serial.0 ≡ true) (λ d. eqb d.serial.0 c.args.serial.0 ≡ false)
     c.position.ensures.ran (YieldsList-from_slice c.args.self.now.duties.now cc)
     (λ x q k. search (rules, tests)) (λ x q k. search (rules, tests)) in
-    rw c.from_residual.ensures (nowhere c.args.self.now.duties.now c.args.serial.0 (rw c.in_err-place.was at first))
+    rw c.from_residual.ensures
+    (nowhere c.args.self.now.duties.now c.args.serial.0 (rw c.in_err-place.was at first))
