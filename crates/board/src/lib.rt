@@ -1,9 +1,9 @@
 // The board: who holds which role, permissions, rules and duties, its limits, its filler and the smallest
-// board; what a call answers; and how many of a count stand in the room that there is.
+// board; why a call is refused, and what a call answers.
 #![tactic(auto)]
 
-ghost use Rattle.std.specs.Prelude.{◌≡◌, min};
-ghost use Rattle.board.specs.Answers.{plain_answer, done_answer, written_answer, red_answer};
+ghost use Rattle.std.specs.Prelude.{◌≡◌, take};
+ghost use Rattle.board.specs.Answers.{plain_answer, done_answer, written_answer};
 ghost use Rattle.board.specs.Filler.{no_permission, no_rule, no_duty, smallest_board};
 ghost use Rattle.board.specs.Refusals.{number_of, refused_answer};
 ghost use Rattle.board.specs.View.{view};
@@ -123,6 +123,13 @@ impl Duty {
     }
 }
 
+// As many of the records in a room as are counted, or all that the room holds.
+fn counted<T>(room: &[T], count: u16) -> &[T]
+    ensures { result.now ≡ take count room.now }
+{
+    &room[..(count as usize).min(room.len())]
+}
+
 impl Board {
     // The limits.
     pub const USERS: usize = 64;
@@ -145,32 +152,28 @@ impl Board {
     pub fn users(&self) -> &[u32]
         ensures { result.now ≡ (view self.now).holdings }
     {
-        let count = (self.counts.users as usize).min(Board::USERS);
-        &self.holdings[..count]
+        counted(&self.holdings, self.counts.users)
     }
 
     // The permissions.
     pub fn permissions(&self) -> &[Permission]
         ensures { result.now ≡ (view self.now).permissions }
     {
-        let count = (self.counts.permissions as usize).min(Board::PERMISSIONS);
-        &self.permissions[..count]
+        counted(&self.permissions, self.counts.permissions)
     }
 
     // The rules.
     pub fn rules(&self) -> &[Rule]
         ensures { result.now ≡ (view self.now).rules }
     {
-        let count = (self.counts.rules as usize).min(Board::RULES);
-        &self.rules[..count]
+        counted(&self.rules, self.counts.rules)
     }
 
     // The open duties.
     pub fn duties(&self) -> &[Duty]
         ensures { result.now ≡ (view self.now).duties }
     {
-        let count = (self.counts.duties as usize).min(Board::DUTIES);
-        &self.duties[..count]
+        counted(&self.duties, self.counts.duties)
     }
 
     // One user with no role, one role, clock 0, next serial 1, nothing else.
@@ -372,23 +375,4 @@ impl Answer {
             length,
         }
     }
-
-    // Red, with a failing order of this length.
-    pub fn red(length: usize) -> Self
-        ensures { result ≡ red_answer length }
-    {
-        let serial = Serial(0);
-        Answer {
-            number: Answer::RED,
-            serial,
-            length,
-        }
-    }
-}
-
-// The lesser of a number and the room for it.
-pub fn within(count: usize, room: usize) -> usize
-    ensures { result ≡ min count room }
-{
-    count.min(room)
 }
