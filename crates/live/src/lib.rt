@@ -1,5 +1,6 @@
 // The calls on the live board, which is lent to them: each leaves its outcome there. A thin layer over the
-// calls by value, with their promises.
+// calls by value, with their promises. Each is of its own request and promise, so one generic function over
+// them, with a trait for the request, would be no plainer.
 #![tactic(auto)]
 
 ghost use Rattle.board.specs.Answers.{done_answer};
