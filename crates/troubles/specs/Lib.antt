@@ -1,5 +1,3 @@
 pub mod Setting
-pub mod Mending
 pub mod Troubles
 pub mod Reaching
-pub mod Weighing

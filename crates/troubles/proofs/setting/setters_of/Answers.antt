@@ -1,5 +1,5 @@
 -- `setters_of` is right: a duty that sets a holding is put behind those before it.
-use Rattle.std.proofs.Common.{refl, sym, ◌∙◌, arith}
+use Rattle.std.proofs.Common.{rules, ◌≡◌, refl, sym, ◌∙◌, length, arith}
 use lib.ListN.{get_or}
 use lib.Seq.{take_all}
 use Rattle.board.specs.Filler.{no_duty}
