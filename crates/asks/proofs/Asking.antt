@@ -1,5 +1,5 @@
--- On a good board both kinds of records rise, so what is found is what is asked; and so for one duty after the
--- other.
+-- On a good board both kinds of records rise, so what is found is what is asked; and so for one duty after
+-- the other.
 use mathlib.Core.Path.{◌≡◌, refl, ◌∙◌, ap}
 use mathlib.Core.Bool.{true}
 use mathlib.Core.List.{List, map}
@@ -39,7 +39,8 @@ module _ (b : Board) (g : good b ≡ true) where
 
 -- where there is room for the keys of all records, they are those of all
 pub all_keys :
-    {A : Type 0} (key : A → ℕ) (l : List A) (keys : List ℕ) {records : List A} {n room many : ℕ} → records ≡ take n l → n ≤ room
+    {A : Type 0} (key : A → ℕ) (l : List A) (keys : List ℕ) {records : List A} {n room many : ℕ}
+    → records ≡ take n l → n ≤ room
     → take (min (length records) room) keys ≡ map key (take room records) → many ≡ min (length records) room
     → take many keys ≡ map key (take n l)
 all_keys key l keys {records} {n} {room} is few known e =
@@ -47,7 +48,8 @@ all_keys key l keys {records} {n} {room} is few known e =
 
 -- a rule asks the same whoever the doer is
 pub whoever :
-    (doer target : ℕ) (r : Option Rule) → in_one_form target (by_rule target r) ≡ in_one_form doer (by_rule target r)
+    (doer target : ℕ) (r : Option Rule)
+    → in_one_form target (by_rule target r) ≡ in_one_form doer (by_rule target r)
 whoever doer target None = refl
 whoever doer target (Some r) = refl
 
@@ -60,11 +62,13 @@ pub record Asked (b : Board) (duties : List Duty) (i : ℕ) (asks : List (Option
 
 module _ {b : Board} {duties : List Duty} where
   pub asked_starts : Asked b duties 0 (replicate {A = Option Ask} max_duties None)
-  asked_starts = record { long = length-replicate {A = Option Ask} max_duties None; are = λ g j k. absurd (omega arith) }
+  asked_starts =
+      record { long = length-replicate {A = Option Ask} max_duties None; are = λ g j k. absurd (omega arith) }
 
   pub asked_next :
       {i : ℕ} {asks : List (Option Ask)} {ask : Option Ask} → Asked b duties i asks → i < max_duties
-      → (good b ≡ true → ask ≡ ask_of (view b) (get_or duties i no_duty)) → Asked b duties (i + 1) (set asks i ask)
+      → (good b ≡ true → ask ≡ ask_of (view b) (get_or duties i no_duty))
+      → Asked b duties (i + 1) (set asks i ask)
   asked_next {i} {asks} {ask} known room e =
       let long = known.long in
       record {
@@ -73,5 +77,7 @@ module _ {b : Board} {duties : List Duty} where
             by_test
             (eqb j i)
             (λ t. let s = eqb-true j i t in rw s (get_or-set_same asks i ask None (omega arith) ∙ e g))
-            (λ f. get_or-set_other asks i j ask None (eqb-false j i f) ∙ known.are g j (omega (arith, eqb-false j i f)));
+            (λ f.
+            get_or-set_other asks i j ask None (eqb-false j i f)
+            ∙ known.are g j (omega (arith, eqb-false j i f)));
       }

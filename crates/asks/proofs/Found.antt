@@ -57,14 +57,19 @@ module _ {A : Type 0} (first second : A → ℕ) (a b : ℕ) where
       ⊎_elim
       (λ t. let k = ltb-true (first x) (first y) t in omega arith)
       (λ t.
-      let same = eqb-true (first x) (first y) (and_left (eqb (first x) (first y)) (ltb (second x) (second y)) t) in
-      let k = ltb-true (second x) (second y) (and_right (eqb (first x) (first y)) (ltb (second x) (second y)) t) in
+      let same =
+      eqb-true (first x) (first y)
+      (and_left (eqb (first x) (first y)) (ltb (second x) (second y)) t) in
+      let k =
+      ltb-true (second x) (second y)
+      (and_right (eqb (first x) (first y)) (ltb (second x) (second y)) t) in
       omega arith)
       (or_true (ltb (first x) (first y)) (eqb (first x) (first y) && ltb (second x) (second y)) e)
 
   -- among records that rise the pair stands at one place alone,
   find_at :
-      (l : List A) → Rising first second l → (at : ℕ) (z : A) → at < length l → has_both (get_or l at z) ≡ true
+      (l : List A) → Rising first second l → (at : ℕ) (z : A) → at < length l
+      → has_both (get_or l at z) ≡ true
       → find has_both l ≡ Some (get_or l at z)
   find_at [] known at z h e = absurd (not-suc-le-zero h)
   find_at (x ∷ l) known zero z h e = rw e refl
@@ -72,21 +77,28 @@ module _ {A : Type 0} (first second : A → ℕ) (a b : ℕ) where
       let y = get_or l at z in
       let member = at_place l at z (le_of_suc-le-suc h) in
       let less = rises x y (known.small x (here refl)) (known.rise.0 y member) in
-      let not_yet : has_both x ≡ false = is_false (has_both x) (λ t. let k = both x t in let m = both y e in omega arith) in
-      rw not_yet (find_at l (record { small = λ w m. known.small w (there m); rise = known.rise.1 }) at z (le_of_suc-le-suc h) e)
+      let not_yet : has_both x ≡ false =
+      is_false (has_both x) (λ t. let k = both x t in let m = both y e in omega arith) in
+      rw not_yet
+      (find_at l (record { small = λ w m. known.small w (there m); rise = known.rise.1 }) at z
+      (le_of_suc-le-suc h) e)
 
   -- and where it stands at none, it is not found
   find_nowhere : (l : List A) → ((x : A) → Mem x l → has_both x ≡ false) → find has_both l ≡ None
   find_nowhere [] f = refl
   find_nowhere (x ∷ l) f = rw (f x (here refl)) (find_nowhere l (λ y m. f y (there m)))
 
-  rising_keys : (l : List A) → Rising first second l → (i j : ℕ) (z : A) → i < j → j < length l → key_by (get_or l i z) < key_by (get_or l j z)
+  rising_keys :
+      (l : List A) → Rising first second l → (i j : ℕ) (z : A) → i < j → j < length l
+      → key_by (get_or l i z) < key_by (get_or l j z)
   rising_keys [] known i j z h k = absurd (not-suc-le-zero k)
   rising_keys (x ∷ l) known i zero z h k = absurd (not-suc-le-zero h)
   rising_keys (x ∷ l) known zero (suc j) z h k =
-      rises x (get_or l j z) (known.small x (here refl)) (known.rise.0 _ (at_place l j z (le_of_suc-le-suc k)))
+      rises x (get_or l j z) (known.small x (here refl))
+      (known.rise.0 _ (at_place l j z (le_of_suc-le-suc k)))
   rising_keys (x ∷ l) known (suc i) (suc j) z h k =
-      rising_keys l (record { small = λ w m. known.small w (there m); rise = known.rise.1 }) i j z (le_of_suc-le-suc h) (le_of_suc-le-suc k)
+      rising_keys l (record { small = λ w m. known.small w (there m); rise = known.rise.1 }) i j z
+      (le_of_suc-le-suc h) (le_of_suc-le-suc k)
 
   module _ (l : List A) (known : Rising first second l) (small : b < span) (z : A) {at : ℕ}
       {keys : List ℕ} (are : keys ≡ map key_by l) {sought : ℕ} (is_key : sought ≡ key_of a b)
@@ -98,8 +110,10 @@ module _ {A : Type 0} (first second : A → ℕ) (a b : ℕ) where
     key_at i h = get_d_map key_by l i 0 z h
 
     -- the record at the place is the one that is found,
-    pub found_there : at < length l → key_by (get_or l at z) ≡ key_of a b → find has_both l ≡ Some (get_or l at z)
-    found_there h e = find_at l known at z h (same_key small (get_or l at z) (known.small _ (at_place l at z h)) e)
+    pub found_there :
+        at < length l → key_by (get_or l at z) ≡ key_of a b → find has_both l ≡ Some (get_or l at z)
+    found_there h e =
+        find_at l known at z h (same_key small (get_or l at z) (known.small _ (at_place l at z h)) e)
 
     -- and where its key is another, or there is none, nothing is found
     pub found_nowhere : (at < length l → key_by (get_or l at z) ≡ key_of a b → ⊥) → find has_both l ≡ None
@@ -116,11 +130,18 @@ module _ {A : Type 0} (first second : A → ℕ) (a b : ℕ) where
             (ltb j at)
             (λ e.
             let inside = halved.inside in
-            let less = rw (key_at (at - 1) (omega (arith, ltb-true j at e))) at (halved.lower (at - 1) (omega (arith, ltb-true j at e))) in
+            let less =
+            rw (key_at (at - 1) (omega (arith, ltb-true j at e))) at
+            (halved.lower (at - 1) (omega (arith, ltb-true j at e))) in
             by_test
             (ltb j (at - 1))
-            (λ f. let up = rising_keys l known j (at - 1) z (ltb-true j (at - 1) f) (omega (arith, ltb-true j at e)) in omega arith)
-            (λ f. let here : j ≡ at - 1 = omega (arith, ltb-true j at e, ltb-false j (at - 1) f) in omega (arith, rw here at same)))
+            (λ f.
+            let up =
+            rising_keys l known j (at - 1) z (ltb-true j (at - 1) f) (omega (arith, ltb-true j at e)) in
+            omega arith)
+            (λ f.
+            let here : j ≡ at - 1 = omega (arith, ltb-true j at e, ltb-false j (at - 1) f) in
+            omega (arith, rw here at same)))
             (λ e.
             let before = ltb-false j at e in
             let in_list : at < length l = omega arith in
@@ -128,4 +149,6 @@ module _ {A : Type 0} (first second : A → ℕ) (a b : ℕ) where
             by_test
             (ltb at j)
             (λ f. let up = rising_keys l known at j z (ltb-true at j f) h in omega arith)
-            (λ f. let here : j ≡ at = omega (arith, ltb-false at j f) in absurd (other in_list (rw here at same)))))
+            (λ f.
+            let here : j ≡ at = omega (arith, ltb-false at j f) in
+            absurd (other in_list (rw here at same)))))

@@ -67,9 +67,9 @@ fn keys<T: Keyed, const N: usize>(records: &[T]) -> [u32; N]
     keys
 }
 
-// The place that the key sought has or would have, where the keys rise. Each turn halves what is left, whichever
-// way it goes, so that no turn is a branch that cannot be foreseen: by the library's binary search a check of a
-// board of 128 different uses takes 1.5 times as long.
+// The place that the key sought has or would have, where the keys rise. Each turn halves what is left,
+// whichever way it goes, and the way is a number: with a branch at each turn, which cannot be foreseen, as in
+// the library's binary search, a check of 128 different uses takes 1.5 times as long.
 fn key_place(keys: &[u32], sought: u32) -> usize
     ensures { Halved keys.now (length keys.now) sought result }
 {
@@ -77,16 +77,17 @@ fn key_place(keys: &[u32], sought: u32) -> usize
     let mut left = keys.len();
     while left > 0 {
         let half = left - left / 2;
-        let next = low + half;
-        if keys[next - 1] < sought {
-            low = next;
-        }
+        let next = keys[low + half - 1];
+        // one where the next key is below what is sought, and nothing where it is not
+        let below = (sought as u64 + 4294967295 - next as u64) / 4294967296;
+        low += half * below as usize;
         left -= half;
     }
     low
 }
 
-// What the permission for the action on the object asks, if there is one among permissions that rise by the keys.
+// What the permission for the action on the object asks, if there is one among permissions that rise and have
+// the keys.
 fn by_permission(
     permissions: &[Permission],
     keys: &[u32],
@@ -94,7 +95,8 @@ fn by_permission(
     action: u16,
     object: u16,
 ) -> Option<Ask>
-    ensures { Rising (λ p. p.action) (λ p. p.object) permissions.now → keys.now ≡ map permission_key permissions.now
+    ensures { Rising (λ p. p.action) (λ p. p.object) permissions.now
+        → keys.now ≡ map permission_key permissions.now
         → result ≡ in_one_form doer (by_permission (find (is_for action object) permissions.now)) }
 {
     let sought = joined(action, object);
@@ -110,9 +112,10 @@ fn by_permission(
     })
 }
 
-// What the rule of the kind and for the role asks, if there is one among rules that rise by the keys.
+// What the rule of the kind and for the role asks, if there is one among rules that rise and have the keys.
 fn by_rule(rules: &[Rule], keys: &[u32], kind: u16, target: u16, role: u16) -> Option<Ask>
-    ensures { Rising (λ r. r.kind) (λ r. r.role) rules.now → keys.now ≡ map rule_key rules.now
+    ensures { Rising (λ r. r.kind) (λ r. r.role) rules.now
+        → keys.now ≡ map rule_key rules.now
         → result ≡ in_one_form target (by_rule target (find (governs kind role) rules.now)) }
 {
     let sought = joined(kind, role);

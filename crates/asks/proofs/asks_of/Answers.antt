@@ -15,6 +15,8 @@ loop-i-preserved c =
     (λ g.
     let counts = good→counts c.args.b.now g in
     c.ask_of.ensures g
-    (all_keys permission_key _ _ c.permissions-permissions.ensures counts.permissions c.keys-action_keys.ensures c.min.ensures)
+    (all_keys permission_key _ _ c.permissions-permissions.ensures counts.permissions
+    c.keys-action_keys.ensures c.min.ensures)
     (all_keys rule_key _ _ c.rules-rules.ensures counts.rules c.keys-kind_keys.ensures c.min-2.ensures)
-    ∙ ap (ask_of (view c.args.b.now)) (get_or-take c.min-count.result c.args.duties.now c.loop-i.i no_duty (search rules)))
+    ∙ ap (ask_of (view c.args.b.now))
+    (get_or-take c.min-count.result c.args.duties.now c.loop-i.i no_duty (search rules)))
