@@ -69,7 +69,7 @@ fn keys<T: Keyed, const N: usize>(records: &[T]) -> [u32; N]
 
 // The place that the key sought has or would have, where the keys rise. Each turn halves what is left,
 // whichever way it goes, and the way is a number: with a branch at each turn, which cannot be foreseen, as in
-// the library's binary search, a check of 128 different uses takes 1.5 times as long.
+// the library's binary search, a check of 128 different uses takes 1.3 times as long.
 fn key_place(keys: &[u32], sought: u32) -> usize
     ensures { Halved keys.now (length keys.now) sought result }
 {
@@ -79,7 +79,7 @@ fn key_place(keys: &[u32], sought: u32) -> usize
         let half = left - left / 2;
         let next = keys[low + half - 1];
         // one where the next key is below what is sought, and nothing where it is not
-        let below = (sought as u64 + 4294967295 - next as u64) / 4294967296;
+        let below = (sought as u64 + u32::MAX as u64 - next as u64) / 4294967296;
         low += half * below as usize;
         left -= half;
     }

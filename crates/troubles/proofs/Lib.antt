@@ -1,11 +1,11 @@
 pub mod StuckLaws
 pub mod Bits
-pub mod EarlierMend
 pub mod Weighing
 pub mod Gathered
 pub mod AllMends
-pub mod AllUsers
+pub mod Filled
 pub mod Idle
 pub mod Reached
 pub mod Weighed
+pub mod Judged
 pub mod Searching

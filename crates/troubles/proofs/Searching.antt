@@ -1,19 +1,19 @@
 -- The outer loop of `trouble_of`: none of the first i duties is in trouble. The one at place i gets stuck, or
 -- is not in trouble either.
-use mathlib.Core.Path.{◌≡◌, refl, sym}
+use mathlib.Core.Path.{◌≡◌, refl}
 use mathlib.Core.Logic.{inl, inr}
-use mathlib.Core.Bool.{true, false, not}
+use mathlib.Core.Bool.{true, false}
 use mathlib.Core.List.{List}
 use Rattle.std.specs.Prelude.{Option, None, Some}
-use Prim.Native.Nat.{ℕ, ◌+◌, ◌≤◌, ◌<◌, min}
+use Prim.Native.Nat.{ℕ, ◌+◌, ◌≤◌, ◌<◌}
 use native.Mathlib.Omega.{arith}
 use lib.Dec.{ltb}
-use lib.ListN.{length, take, get_or, length-take}
-use lib.Seq.{get_or-take}
+use lib.ListN.{length, take, get_or}
+use lib.Seq.{take_all}
 use borrow.Author.Tests.{ltb-true, ltb-false}
 use Rattle.orders.specs.Lists.{Mem, any}
 use Rattle.orders.proofs.Loops.{take_mem}
-use Rattle.orders.proofs.Tests.{by_test, not_true}
+use Rattle.orders.proofs.Tests.{by_test}
 use Rattle.asks.specs.declared.Ask.{Ask}
 use Rattle.board.specs.declared.Duty.{Duty}
 use Rattle.board.specs.Filler.{no_duty}
@@ -27,35 +27,31 @@ pub record Quiet (sets : List ℕ) (pool : List Duty) (asks : List (Option Ask))
 pub starts : (sets : List ℕ) (pool : List Duty) (asks : List (Option Ask)) → Quiet sets pool asks 0
 starts sets pool asks = record { none = λ k h. absurd (omega arith) }
 
-module _ (sets : List ℕ) (duties : List Duty) (asks : List (Option Ask)) (n i : ℕ) where
-  abbrev pool : List Duty
-  pool = take n duties
-
+module _ (sets : List ℕ) (pool : List Duty) (asks : List (Option Ask)) (i : ℕ) where
   abbrev d : Duty
-  d = get_or duties i no_duty
+  d = get_or pool i no_duty
 
   abbrev ask : Option Ask
   ask = get_or asks i None
 
   -- the duty at place i
-  module _ (h : i < min n (length duties)) where
-    same_duty : get_or pool i no_duty ≡ d
-    same_duty = get_or-take n duties i no_duty (omega arith)
-
-    inside : i < length pool
-    inside = rw (length-take n duties) h
+  module _ (h : i < length pool) where
+    open_d : Mem d pool
+    open_d =
+        let whole : take (length pool) pool ≡ pool = take_all (length pool) pool (omega arith) in
+        rw whole at (take_mem pool (length pool) i no_duty h h)
 
     -- it cannot be met
     alone : can_be_met sets pool d ask ≡ false → Stuck sets pool asks d.serial.0 d.serial.0
     alone e =
         record {
           place = i;
-          inside = inside;
+          inside = h;
           d = d;
-          is_d = sym same_duty;
+          is_d = refl;
           named_d = refl;
           x = d;
-          open_x = take_mem duties n i no_duty (omega arith) (omega arith);
+          open_x = open_d;
           named_x = refl;
           why = inl (refl, e);
         }
@@ -77,9 +73,9 @@ module _ (sets : List ℕ) (duties : List Duty) (asks : List (Option Ask)) (n i 
     spoiled is found =
         record {
           place = i;
-          inside = inside;
+          inside = h;
           d = d;
-          is_d = sym same_duty;
+          is_d = refl;
           named_d = refl;
           x = found.0;
           open_x = found.1;
@@ -98,7 +94,7 @@ module _ (sets : List ℕ) (duties : List Duty) (asks : List (Option Ask)) (n i 
             by_test
             (ltb k i)
             (λ t. quiet.none k (ltb-true k i t))
-            (λ f. let same : k ≡ i = omega (arith, ltb-false k i f) in rw (same, same_duty, is, met, none))
+            (λ f. let same : k ≡ i = omega (arith, ltb-false k i f) in rw (same, is, met, none))
 
-  pub over : Quiet sets pool asks i → min n (length duties) ≤ i → Troubled sets pool asks None
-  over quiet h k l = quiet.none k (omega (arith, length-take n duties))
+  pub over : Quiet sets pool asks i → length pool ≤ i → Troubled sets pool asks None
+  over quiet h k l = quiet.none k (omega arith)

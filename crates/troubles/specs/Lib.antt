@@ -1,3 +1,5 @@
 pub mod Setting
+pub mod Mending
 pub mod Troubles
 pub mod Reaching
+pub mod Weighing

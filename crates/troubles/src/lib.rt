@@ -6,6 +6,7 @@
 
 mod pairs;
 mod setting;
+mod weigh;
 
 ghost use Rattle.std.specs.Prelude.{take, min, length};
 ghost use Rattle.board.specs.Limits.{max_duties};
@@ -13,8 +14,9 @@ ghost use Rattle.troubles.specs.Troubles.{Troubled};
 
 use asks::Ask;
 use board::{Board, Duty, Serial};
-use pairs::{Reach, can_be_met, makes_wrong, reach_with};
+use pairs::can_be_met;
 use setting::{LAST_MINUTE, mends_of, setters_of, users_of};
+use weigh::weigh;
 
 // What makes a board red: the serial of the duty that gets stuck, and of the one that spoils it (the same,
 // where the duty cannot be met at all).
@@ -37,60 +39,35 @@ pub fn trouble_of(
 {
     let n = duties.len().min(Board::DUTIES);
     let gathered = setters_of(&duties[..n]);
-    let setters = gathered.all;
-    let m = gathered.count;
-    let users = users_of(setters, m);
-    // Until the table is made nothing mends, since nothing starts after the last minute.
-    let mut mends = [LAST_MINUTE; Board::DUTIES];
-    let mut made = false;
-    let mut i: usize = 0;
-    while i < n {
-        let d = duties[i];
+    let setters = &gathered.all[..gathered.count];
+    let users = users_of(setters);
+    // Until the table is made nothing mends, since nothing starts after the last minute. It is made late, since
+    // many boards need none: by docs/SPEED.md that takes a quarter off a check of them.
+    let unmended = [LAST_MINUTE; Board::DUTIES];
+    let mut mends: Option<[u32; Board::DUTIES]> = None;
+    for (i, d) in duties[..n].iter().enumerate() {
         let stuck = d.serial;
+        let unmet = Trouble {
+            spoiler: stuck,
+            stuck,
+        };
         let Some(ask) = asks[i] else {
-            return Some(Trouble {
-                spoiler: stuck,
-                stuck,
-            });
+            return Some(unmet);
         };
-        let actor = roles::with_role(0, ask.actor);
-        let own = permitted::held_by(holdings, d.doer);
-        let theirs = permitted::held_by(holdings, ask.target);
-        let mut reach = Reach {
-            own,
-            most: theirs,
-            least: theirs,
-        };
-        let mut k: usize = 0;
-        while k < m {
-            let user = users[k];
-            if (user == d.doer) | (user == ask.target) {
-                let x = setters[k];
-                let mend = mends[k];
-                let next = reach_with(reach, x, d, ask);
-                reach = next;
-                if makes_wrong(x, mend, d, ask, actor) {
-                    if made {
-                        let spoiler = x.serial;
+        let reach = loop {
+            let table = mends.as_ref().unwrap_or(&unmended);
+            match weigh(setters, &users, table, d, &ask, holdings) {
+                Ok(reach) => break reach,
+                Err(spoiler) => {
+                    if mends.is_some() {
                         return Some(Trouble { spoiler, stuck });
                     }
-                    break;
                 }
             }
-            k += 1;
-        }
-        if k < m {
-            let table = mends_of(setters, m);
-            mends = table;
-            made = true;
-        } else {
-            if !can_be_met(reach, ask) {
-                return Some(Trouble {
-                    spoiler: stuck,
-                    stuck,
-                });
-            }
-            i += 1;
+            mends = Some(mends_of(setters));
+        };
+        if !can_be_met(reach, ask) {
+            return Some(unmet);
         }
     }
     None

@@ -1,11 +1,10 @@
 // The duties that set a holding, in numbers, and for each the earliest end of a duty that mends what it
 // spoils.
-ghost use Rattle.std.specs.Prelude.{◌≡◌, List, [], ◌∷◌, map, ◌≤◌, length, take, cond};
+ghost use Rattle.std.specs.Prelude.{◌≡◌, map, ◌≤◌, length, take, cond};
 ghost use Rattle.orders.specs.Lists.{keep};
-ghost use Rattle.board.specs.declared.Duty.{Duty};
 ghost use Rattle.board.specs.Limits.{max_duties};
 ghost use Rattle.troubles.specs.Setting.{sets_one, setter_of};
-ghost use Rattle.quick_criterion.specs.Mends.{last_minute, first_mend};
+ghost use Rattle.troubles.specs.Mending.{earlier_mend, mend_of};
 
 use board::{Board, Duty, Serial, What};
 
@@ -25,7 +24,8 @@ pub(crate) struct Setter {
     pub end: u32,
 }
 
-// The duties that set a holding, at the start of the room, and their number.
+// The duties that set a holding, at the start of the room, and their number: a room of fixed size, since
+// nothing may be allocated where nothing may fail.
 #[derive(Clone, Copy)]
 pub(crate) struct Setters {
     pub all: [Setter; Board::DUTIES],
@@ -83,18 +83,15 @@ pub(crate) fn setters_of(duties: &[Duty]) -> Setters
     Setters { all, count }
 }
 
-// The user of each of the first m setters, so that the inner loop reads one small number of a setter that
-// concerns nobody.
-pub(crate) fn users_of(setters: [Setter; Board::DUTIES], m: usize) -> [u16; Board::DUTIES]
-    requires { m ≤ max_duties }
-    ensures { take m result ≡ map (λ x. x.user) (take m setters) }
+// The user of each of the setters, so that the inner loop reads one small number of a setter that concerns
+// nobody.
+pub(crate) fn users_of(setters: &[Setter]) -> [u16; Board::DUTIES]
+    requires { length setters.now ≤ max_duties }
+    ensures { take (length setters.now) result ≡ map (λ x. x.user) setters.now }
 {
     let mut users = [0u16; Board::DUTIES];
-    let mut k: usize = 0;
-    while k < m {
-        let x = setters[k];
+    for (k, x) in setters.iter().enumerate() {
         users[k] = x.user;
-        k += 1;
     }
     users
 }
@@ -102,9 +99,8 @@ pub(crate) fn users_of(setters: [Setter; Board::DUTIES], m: usize) -> [u16; Boar
 // ---- what mends
 
 // The earlier of `best` and the end of g, if x is wholly before g and g undoes what x sets.
-fn earlier_mend(x: Setter, g: Setter, best: u32) -> u32
-    ensures { (y h : Duty) → x ≡ setter_of y → g ≡ setter_of h
-        → result ≡ first_mend y best (h ∷ []) }
+fn earlier_mend(x: &Setter, best: u32, g: &Setter) -> u32
+    ensures { result ≡ earlier_mend x.now best g.now }
 {
     if (g.grants & x.revokes) | (g.revokes & x.grants) == 0 {
         return best;
@@ -118,26 +114,23 @@ fn earlier_mend(x: Setter, g: Setter, best: u32) -> u32
     if g.end < best { g.end } else { best }
 }
 
-// For each of the first m setters the earliest end of a duty that mends what it spoils. Both loops stand in
-// one function, so that nothing is copied for a pair.
-pub(crate) fn mends_of(setters: [Setter; Board::DUTIES], m: usize) -> [u32; Board::DUTIES]
-    requires { m ≤ max_duties }
-    ensures { (l : List Duty) → take m setters ≡ map setter_of l
-        → take m result ≡ map (λ x. first_mend x last_minute l) l }
+// The earliest end of one of the setters that mends what x spoils.
+fn mend_of(x: &Setter, setters: &[Setter]) -> u32
+    ensures { result ≡ mend_of setters.now x.now }
+{
+    setters
+        .iter()
+        .fold(LAST_MINUTE, |best, g| earlier_mend(x, best, g))
+}
+
+// For each of the setters the earliest end of one that mends what it spoils.
+pub(crate) fn mends_of(setters: &[Setter]) -> [u32; Board::DUTIES]
+    requires { length setters.now ≤ max_duties }
+    ensures { take (length setters.now) result ≡ map (mend_of setters.now) setters.now }
 {
     let mut mends = [LAST_MINUTE; Board::DUTIES];
-    let mut j: usize = 0;
-    while j < m {
-        let x = setters[j];
-        let mut best = LAST_MINUTE;
-        let mut k: usize = 0;
-        while k < m {
-            let g = setters[k];
-            best = earlier_mend(x, g, best);
-            k += 1;
-        }
-        mends[j] = best;
-        j += 1;
+    for (k, x) in setters.iter().enumerate() {
+        mends[k] = mend_of(x, setters);
     }
     mends
 }

@@ -5,7 +5,7 @@ ghost use Rattle.std.specs.Prelude.{◌≡◌, Bool};
 ghost use Rattle.board.specs.Good as g;
 ghost use Rattle.values.specs.Places.{Tests, part_good, Tells, TellsOfTwo};
 
-use board::{Board, Duty, Permission, Rule};
+use board::{Board, Duty, Permission, Rule, Serial, What};
 
 // Whether these records each fit, and each is above the one before it.
 fn part_fits<T, F: Fn(&T) -> bool, G: Fn(&T, &T) -> bool>(used: &[T], fits: F, below: G) -> bool
@@ -42,10 +42,14 @@ fn part_good<T, F: Fn(&T) -> bool, G: Fn(&T, &T) -> bool, H: Fn(&T) -> bool>(
         → Tells H.Fn is_filler t.filler → result ≡ part_good t count part.now }
 {
     let (used, rest) = part.split_at(count.min(part.len()));
-    part_fits(used, fits, below) & rest.iter().all(|x| is_filler(x))
+    // Each record is told, whatever those before it are, so that several are told at once: with `all`, which
+    // stops at the first that is not filler, the test of a small board takes a seventh longer.
+    part_fits(used, fits, below) & rest.iter().fold(true, |all, x| all & is_filler(x))
 }
 
-// Whether a board value keeps every rule of the board file and holds the filler beyond each count.
+// Whether a board value keeps every rule of the board file and holds the filler beyond each count. The filler
+// is told field by field: by `==`, which stops at the first field that differs, the test of a small board
+// takes a fifth longer.
 pub fn is_good(b: Board) -> bool
     ensures { result ≡ g.good b }
 {
@@ -68,21 +72,25 @@ pub fn is_good(b: Board) -> bool
         counts.permissions as usize,
         |p| records::permission_fits(*p, roles),
         |p, q| records::permission_below(*p, *q),
-        |p| *p == Permission::filler(),
+        |p| (p.role == 0) & ((p.action == 0) & (p.object == 0)),
     );
     let rules = part_good(
         &b.rules,
         counts.rules as usize,
         |r| records::rule_fits(*r, roles),
         |r, s| records::rule_below(*r, *s),
-        |r| *r == Rule::filler(),
+        |r| (r.kind == 0)
+            & ((r.actor == 0) & ((r.role == 0) & ((r.wanted == 0) & (r.barred == 0)))),
     );
     let duties = part_good(
         &b.duties,
         counts.duties as usize,
         |d| records::duty_fits(*d, users, roles, next) & windows::window_fits(*d),
         |d, e| records::duty_below(*d, *e),
-        |d| *d == Duty::filler(),
+        |d| (d.serial == Serial(0))
+            & ((d.doer == 0)
+                & ((d.what == What::Grant { target: 0, role: 0 })
+                    & ((d.start == 0) & (d.end == 0)))),
     );
     holdings & (permissions & (rules & duties))
 }

@@ -1,9 +1,10 @@
 -- `values::part_good` meets its contract: the records that are counted stand before the filler.
-use Rattle.std.proofs.Common.{rules, tests, ◌≡◌, ℕ, List, length, take, drop, min, ◌∙◌, arith}
+use Rattle.std.proofs.Common.{rules, tests, ◌≡◌, ℕ, List, length, take, drop, min, ◌∙◌, ◌&&◌, true, arith}
 use Rattle.std.proofs.lemmas.Grind.{common_steps}
 use Rattle.std.specs.List.{list_all}
 use Rattle.std.proofs.lemmas.Iterator.{YieldsList-from_slice}
-use Rattle.std.proofs.lemmas.Iterator.Search.{all_from_yields_List}
+use Rattle.std.proofs.lemmas.Iterator.Consumers.{fold_from_yields_List}
+use Rattle.values.proofs.Gathered.{gathered}
 use Rattle.values.specs.Places.{part_good}
 use Rattle.values.proofs.part_good.Goals as goal
 
@@ -22,8 +23,8 @@ returns g c = λ t tf tb tz.
     c.split_at.ensures.front ∙ rw (c.min.ensures, front n l) in
     let rest : c.split_at.result.1.now ≡ drop n l =
     c.split_at.ensures.back ∙ rw (c.min.ensures, back n l) in
-    let filled : c.all.result ≡ list_all t.filler (drop n l) =
-    all_from_yields_List t.filler c.all.new.self _ _ c.all.ensures.ran
+    let filled : c.fold.result ≡ list_all t.filler (drop n l) =
+    fold_from_yields_List _ (λ a x. a && t.filler x) true c.fold.result c.fold.ensures.ran
     (YieldsList-from_slice _ (c.iter.ensures.rest ∙ rest))
-    (λ x b q k. (search rules, search (rules, tests))) in
+    (λ a x b q k. (search rules, search (rules, tests))) ∙ gathered t.filler (drop n l) in
     rw (c.part_fits.ensures t.fits t.below tf tb, used, filled)

@@ -1,5 +1,5 @@
 -- `setters_of` is right: a duty that sets a holding is put behind those before it.
-use Rattle.std.proofs.Common.{rules, ◌≡◌, refl, sym, ◌∙◌, length, arith}
+use Rattle.std.proofs.Common.{refl, sym, ◌∙◌, arith}
 use lib.ListN.{get_or}
 use lib.Seq.{take_all}
 use Rattle.board.specs.Filler.{no_duty}
@@ -23,7 +23,8 @@ loop-d-preserved c =
           rw (w.all-is, w.count-is) (gathered known no_duty h (omega arith) found.1 found.0)
       | in_default w ↦
           rw (w.all-is, w.count-is)
-          (passed_over known no_duty h (there_is_none (sets_one d) (setter_of d) (sym w.in_default.is ∙ c.setter_of.ensures)))
+          (passed_over known no_duty h
+          (there_is_none (sets_one d) (setter_of d) (sym w.in_default.is ∙ c.setter_of.ensures)))
     ]
 
 pub returns : goal.returns

@@ -1,5 +1,5 @@
--- `setters_of` is right: what those of the duties passed set that set a holding stands closed up at the start of
--- the room.
+-- `setters_of` is right: what those of the duties passed set that set a holding stands closed up at the start
+-- of the room.
 use Rattle.board.specs.Limits.{max_duties}
 use Rattle.troubles.specs.Setting.{sets_one, setter_of}
 use Rattle.troubles.proofs.Gathered.{Gathered}

@@ -1,10 +1,6 @@
--- `users_of` is right: after k turns the first k users are those of the first k setters.
-use Prim.Native.Nat.{◌-◌}
-use Rattle.troubles.proofs.AllUsers.{Users}
+-- `users_of` is right: the setters passed have their users.
+use Rattle.troubles.proofs.Filled.{Filled}
 use Rattle.troubles.proofs.setting.users_of.Given as goal
 
 abbrev pub invariant-loop-k : goal.invariant-loop-k
-invariant-loop-k l = Users l.setters l.m l.users l.k
-
-abbrev pub decreases-loop-k : goal.decreases-loop-k
-decreases-loop-k l = l.m - l.k
+invariant-loop-k l = Filled (λ x. x.user) l.setters l.k l.users
