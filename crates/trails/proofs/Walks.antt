@@ -160,110 +160,110 @@ module _ (asked : Duty → Option Ask) (pool : List Duty) (x d : Duty) (start : 
 
 module _ (duties : List Duty) (asks : List (Option Ask)) (keys sets : List ℕ) (spoiler stuck : ℕ)
     (before : List ℕ) where
-    -- where one of the two is missing, nothing is said
-    pub no_spoiler :
-        {found : Option (Duty × Option Ask)} → Found duties asks spoiler found → found ≡ None
-        → (w : Walk × List ℕ) → Walked duties asks keys sets spoiler stuck before w
-    no_spoiler x_at e w asked x d are inside unique x_in x_is d_in d_is =
-        let missed : Found duties asks spoiler None = rw e at x_at in
-        absurd (missed x x_in x_is)
+  -- where one of the two is missing, nothing is said
+  pub no_spoiler :
+      {found : Option (Duty × Option Ask)} → Found duties asks spoiler found → found ≡ None
+      → (w : Walk × List ℕ) → Walked duties asks keys sets spoiler stuck before w
+  no_spoiler x_at e w asked x d are inside unique x_in x_is d_in d_is =
+      let missed : Found duties asks spoiler None = rw e at x_at in
+      absurd (missed x x_in x_is)
 
-    pub no_stuck :
-        {found : Option (Duty × Option Ask)} → Found duties asks stuck found → found ≡ None
-        → (w : Walk × List ℕ) → Walked duties asks keys sets spoiler stuck before w
-    no_stuck d_at e w asked x d are inside unique x_in x_is d_in d_is =
-        let missed : Found duties asks stuck None = rw e at d_at in
-        absurd (missed d d_in d_is)
+  pub no_stuck :
+      {found : Option (Duty × Option Ask)} → Found duties asks stuck found → found ≡ None
+      → (w : Walk × List ℕ) → Walked duties asks keys sets spoiler stuck before w
+  no_stuck d_at e w asked x d are inside unique x_in x_is d_in d_is =
+      let missed : Found duties asks stuck None = rw e at d_at in
+      absurd (missed d d_in d_is)
 
-    abbrev order : List Duty
-    order = by_keys duties (length keys) keys
+  abbrev order : List Duty
+  order = by_keys duties (length keys) keys
 
-    -- what is asked for the duties is asked for them in the order of the keys
-    asked_in_order :
-        (asked : Duty → Option Ask) → AskedBy asked duties (length duties) asks
-        → OfTheFirst duties (length keys) keys → AskedInTurn asked order (ask_at asks keys)
-    asked_in_order asked are inside k h =
-        let many = as_many duties (length keys) keys in
-        let place = place_in_key (get_or keys k 0) in
-        let within = inside k (omega (arith, many, length-take (length keys) keys)) in
-        are place (omega (arith, length-take (length keys) duties))
-        ∙ ap asked (sym (at_key duties (length keys) keys k (omega arith) (omega arith)))
+  -- what is asked for the duties is asked for them in the order of the keys
+  asked_in_order :
+      (asked : Duty → Option Ask) → AskedBy asked duties (length duties) asks
+      → OfTheFirst duties (length keys) keys → AskedInTurn asked order (ask_at asks keys)
+  asked_in_order asked are inside k h =
+      let many = as_many duties (length keys) keys in
+      let place = place_in_key (get_or keys k 0) in
+      let within = inside k (omega (arith, many, length-take (length keys) keys)) in
+      are place (omega (arith, length-take (length keys) duties))
+      ∙ ap asked (sym (at_key duties (length keys) keys k (omega arith) (omega arith)))
 
-    -- the duty with a serial is the one found, and so is what is asked for it
-    record Known (asked : Duty → Option Ask) (found : Duty × Option Ask) (y : Duty) : Type 0 where
-      duty : found.0 ≡ y
-      ask : found.1 ≡ asked y
+  -- the duty with a serial is the one found, and so is what is asked for it
+  record Known (asked : Duty → Option Ask) (found : Duty × Option Ask) (y : Duty) : Type 0 where
+    duty : found.0 ≡ y
+    ask : found.1 ≡ asked y
 
-    known :
-        (asked : Duty → Option Ask) → AskedBy asked duties (length duties) asks
-        → ((y z : Duty) → Mem y duties → Mem z duties → y.serial.0 ≡ z.serial.0 → y ≡ z)
-        → {serial : ℕ} {found : Duty × Option Ask} → Found duties asks serial (Some found)
-        → (y : Duty) → Mem y duties → y.serial.0 ≡ serial → Known asked found y
-    known asked are unique {found = found} (place, h, is, ask, named) y m e =
-        let here = rw (take-length duties) at (take_mem duties (length duties) place no_duty h h) in
-        let same = unique found.0 y (rw is here) m (named ∙ sym e) in
-        record { duty = same; ask = ask ∙ are place h ∙ ap asked (sym is ∙ same) }
+  known :
+      (asked : Duty → Option Ask) → AskedBy asked duties (length duties) asks
+      → ((y z : Duty) → Mem y duties → Mem z duties → y.serial.0 ≡ z.serial.0 → y ≡ z)
+      → {serial : ℕ} {found : Duty × Option Ask} → Found duties asks serial (Some found)
+      → (y : Duty) → Mem y duties → y.serial.0 ≡ serial → Known asked found y
+  known asked are unique {found = found} (place, h, is, ask, named) y m e =
+      let here = rw (take-length duties) at (take_mem duties (length duties) place no_duty h h) in
+      let same = unique found.0 y (rw is here) m (named ∙ sym e) in
+      record { duty = same; ask = ask ∙ are place h ∙ ap asked (sym is ∙ same) }
 
-    module _ {x_found d_found : Duty × Option Ask} (x_at : Found duties asks spoiler (Some x_found))
-        (d_at : Found duties asks stuck (Some d_found)) where
-      abbrev Part : Bool → Walk × List ℕ → Walk × List ℕ → Type 0
-      Part late from to =
-          OfTheFirst duties (length keys) keys
-          → PartDone order (ask_at asks keys) (in_trail late x_found.0 d_found.0) from to
+  module _ {x_found d_found : Duty × Option Ask} (x_at : Found duties asks spoiler (Some x_found))
+      (d_at : Found duties asks stuck (Some d_found)) where
+    abbrev Part : Bool → Walk × List ℕ → Walk × List ℕ → Type 0
+    Part late from to =
+        OfTheFirst duties (length keys) keys
+        → PartDone order (ask_at asks keys) (in_trail late x_found.0 d_found.0) from to
 
-      module _ {first : Walk × List ℕ} (p : Part false (set_out sets before) first) where
-        first_is :
+    module _ {first : Walk × List ℕ} (p : Part false (set_out sets before) first) where
+      first_is :
+          (asked : Duty → Option Ask) → AskedBy asked duties (length duties) asks
+          → OfTheFirst duties (length keys) keys → {x d : Duty} → Known asked x_found x
+          → Known asked d_found d
+          → first ≡ one_part asked order x d (set_out sets before)
+      first_is asked are inside at_x at_d =
+          rw (at_x.duty, at_d.duty) at (p inside asked (asked_in_order asked are inside))
+
+      pub stuck_first : first.0.stuck ≡ true → Walked duties asks keys sets spoiler stuck before first
+      stuck_first s asked x d are inside unique x_in x_is d_in d_is =
+          let at_x = known asked are unique x_at x x_in x_is in
+          let at_d = known asked are unique d_at d d_in d_is in
+          let e = first_is asked are inside at_x at_d in
+          e ∙ stuck_one asked order x d (set_out sets before) (rw e at s)
+
+      module _ {second : Walk × List ℕ} (q : second ≡ do_one x_found.1 first x_found.0) where
+        second_is :
             (asked : Duty → Option Ask) → AskedBy asked duties (length duties) asks
             → OfTheFirst duties (length keys) keys → {x d : Duty} → Known asked x_found x
-            → Known asked d_found d
-            → first ≡ one_part asked order x d (set_out sets before)
-        first_is asked are inside at_x at_d =
-            rw (at_x.duty, at_d.duty) at (p inside asked (asked_in_order asked are inside))
+            → Known asked d_found d → second ≡ two_parts asked order x d (set_out sets before)
+        second_is asked are inside at_x at_d =
+            rw (at_x.duty, at_x.ask, first_is asked are inside at_x at_d) at q
 
-        pub stuck_first : first.0.stuck ≡ true → Walked duties asks keys sets spoiler stuck before first
-        stuck_first s asked x d are inside unique x_in x_is d_in d_is =
+        pub stuck_second : second.0.stuck ≡ true → Walked duties asks keys sets spoiler stuck before second
+        stuck_second s asked x d are inside unique x_in x_is d_in d_is =
             let at_x = known asked are unique x_at x x_in x_is in
             let at_d = known asked are unique d_at d d_in d_is in
-            let e = first_is asked are inside at_x at_d in
-            e ∙ stuck_one asked order x d (set_out sets before) (rw e at s)
+            let e = second_is asked are inside at_x at_d in
+            e ∙ stuck_two asked order x d (set_out sets before) (rw e at s)
 
-        module _ {second : Walk × List ℕ} (q : second ≡ do_one x_found.1 first x_found.0) where
-          second_is :
+        module _ {third : Walk × List ℕ} (r : Part true second third) where
+          third_is :
               (asked : Duty → Option Ask) → AskedBy asked duties (length duties) asks
               → OfTheFirst duties (length keys) keys → {x d : Duty} → Known asked x_found x
-              → Known asked d_found d → second ≡ two_parts asked order x d (set_out sets before)
-          second_is asked are inside at_x at_d =
-              rw (at_x.duty, at_x.ask, first_is asked are inside at_x at_d) at q
+              → Known asked d_found d → third ≡ three_parts asked order x d (set_out sets before)
+          third_is asked are inside at_x at_d =
+              rw
+              (at_x.duty, at_d.duty, second_is asked are inside at_x at_d)
+              at (r inside asked (asked_in_order asked are inside))
 
-          pub stuck_second : second.0.stuck ≡ true → Walked duties asks keys sets spoiler stuck before second
-          stuck_second s asked x d are inside unique x_in x_is d_in d_is =
+          pub stuck_third : third.0.stuck ≡ true → Walked duties asks keys sets spoiler stuck before third
+          stuck_third s asked x d are inside unique x_in x_is d_in d_is =
               let at_x = known asked are unique x_at x x_in x_is in
               let at_d = known asked are unique d_at d d_in d_is in
-              let e = second_is asked are inside at_x at_d in
-              e ∙ stuck_two asked order x d (set_out sets before) (rw e at s)
+              let e = third_is asked are inside at_x at_d in
+              e ∙ stuck_three asked order x d (set_out sets before) (rw e at s)
 
-          module _ {third : Walk × List ℕ} (r : Part true second third) where
-            third_is :
-                (asked : Duty → Option Ask) → AskedBy asked duties (length duties) asks
-                → OfTheFirst duties (length keys) keys → {x d : Duty} → Known asked x_found x
-                → Known asked d_found d → third ≡ three_parts asked order x d (set_out sets before)
-            third_is asked are inside at_x at_d =
-                rw
-                (at_x.duty, at_d.duty, second_is asked are inside at_x at_d)
-                at (r inside asked (asked_in_order asked are inside))
-
-            pub stuck_third : third.0.stuck ≡ true → Walked duties asks keys sets spoiler stuck before third
-            stuck_third s asked x d are inside unique x_in x_is d_in d_is =
-                let at_x = known asked are unique x_at x x_in x_is in
-                let at_d = known asked are unique d_at d d_in d_is in
-                let e = third_is asked are inside at_x at_d in
-                e ∙ stuck_three asked order x d (set_out sets before) (rw e at s)
-
-            pub walked :
-                {last : Walk × List ℕ} → last ≡ do_one d_found.1 third d_found.0
-                → Walked duties asks keys sets spoiler stuck before last
-            walked t asked x d are inside unique x_in x_is d_in d_is =
-                let at_x = known asked are unique x_at x x_in x_is in
-                let at_d = known asked are unique d_at d d_in d_is in
-                (rw (at_d.duty, at_d.ask, third_is asked are inside at_x at_d) at t)
-                ∙ four_parts asked order x d (set_out sets before)
+          pub walked :
+              {last : Walk × List ℕ} → last ≡ do_one d_found.1 third d_found.0
+              → Walked duties asks keys sets spoiler stuck before last
+          walked t asked x d are inside unique x_in x_is d_in d_is =
+              let at_x = known asked are unique x_at x x_in x_is in
+              let at_d = known asked are unique d_at d d_in d_is in
+              (rw (at_d.duty, at_d.ask, third_is asked are inside at_x at_d) at t)
+              ∙ four_parts asked order x d (set_out sets before)

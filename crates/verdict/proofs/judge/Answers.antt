@@ -9,9 +9,10 @@ use Rattle.verdict.proofs.judge.Goals as goal
 
 pub returns-then-n-eq0 : goal.returns-then-n-eq0
 returns-then-n-eq0 c is_good room =
-    let none = c.if-n-eq0.true in
-    (none_green c.args.b (sized c.args.b _ c.well_formed.0) is_good (rw c.duties-duties.ensures at none),
-    refl)
+    let none = c.if-n-eq0.true in (
+      none_green c.args.b (sized c.args.b _ c.well_formed.0) is_good (rw c.duties-duties.ensures at none),
+      refl,
+    )
 
 pub returns-in_default : goal.returns-in_default
 returns-in_default c is_good room =
