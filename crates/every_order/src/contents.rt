@@ -2,7 +2,6 @@
 use crate::bytes::{four, two};
 use crate::parts::Part;
 use board::{Duty, Permission, Rule, Serial, What};
-use std::alloc::{AllocError, Global};
 
 // A set of roles.
 pub(crate) fn holding(record: &[u8]) -> u32 {
@@ -60,30 +59,58 @@ pub(crate) fn duty(record: &[u8]) -> Duty {
     }
 }
 
-// The permissions, rules and duties of a file.
-#[derive(Drop)]
+// More than there are records of a kind in a file that is made here.
+const ROOM: usize = 32;
+
+// The permissions, rules and duties of a file, each at the start of its room, and how many there are: rooms of
+// a fixed size, since nothing here allocates.
+#[derive(Clone, Copy)]
 pub(crate) struct Contents {
-    pub permissions: Vec<Permission>,
-    pub rules: Vec<Rule>,
-    pub duties: Vec<Duty>,
+    permissions: [Permission; ROOM],
+    rules: [Rule; ROOM],
+    duties: [Duty; ROOM],
+    counts: [usize; 3],
+}
+
+// Put the records of a part at the start of a room, as many as it holds, and answer how many.
+fn gather<T: Drop, F: Fn(&[u8]) -> T>(room: &mut [T], part: Part, s: &[u8], read: F) -> usize
+    requires { F.IsAlwaysCallable read }
+{
+    let count = usize::from(part.count(s)).min(room.len());
+    for (slot, place) in room.iter_mut().zip(0..part.count(s)) {
+        *slot = read(part.record(s, place));
+    }
+    count
 }
 
 impl Contents {
     // Read them all.
-    pub(crate) fn read(alloc: Global, s: &[u8]) -> Result<Contents, AllocError> {
-        let permissions = (0..Part::Permissions.count(s))
-            .map(|place| permission(Part::Permissions.record(s, place)))
-            .collect(alloc)?;
-        let rules = (0..Part::Rules.count(s))
-            .map(|place| rule(Part::Rules.record(s, place)))
-            .collect(alloc)?;
-        let duties = (0..Part::Duties.count(s))
-            .map(|place| duty(Part::Duties.record(s, place)))
-            .collect(alloc)?;
-        Ok(Contents {
+    pub(crate) fn read(s: &[u8]) -> Contents {
+        let mut permissions = [Permission::filler(); ROOM];
+        let mut rules = [Rule::filler(); ROOM];
+        let mut duties = [Duty::filler(); ROOM];
+        let counts = [
+            gather(&mut permissions, Part::Permissions, s, permission),
+            gather(&mut rules, Part::Rules, s, rule),
+            gather(&mut duties, Part::Duties, s, duty),
+        ];
+        Contents {
             permissions,
             rules,
             duties,
-        })
+            counts,
+        }
+    }
+
+    pub(crate) fn permissions(&self) -> &[Permission] {
+        self.permissions.get(..self.counts[0]).unwrap_or(&[])
+    }
+
+    pub(crate) fn rules(&self) -> &[Rule] {
+        self.rules.get(..self.counts[1]).unwrap_or(&[])
+    }
+
+    pub(crate) fn duties(&self) -> &[Duty] {
+        self.duties.get(..self.counts[2]).unwrap_or(&[])
     }
 }

@@ -26,7 +26,6 @@ use order::{is_failing, places_differ};
 use reader::{Fault, check};
 use says::{is_smallest, says};
 use shortcuts::Shortcut;
-use std::alloc::{AllocError, Global};
 use std::io;
 use tally::{Outcome, Tally, Verdict};
 use walk::walk;
@@ -115,15 +114,12 @@ fn compared_walked(s: &[u8], contents: &Contents, told: &Told) -> Outcome {
 }
 
 // Read and walk a file, ask the board about it, and compare.
-fn compared(alloc: Global, s: &[u8]) -> Result<Outcome, AllocError> {
+fn compared(s: &[u8]) -> Outcome {
     let mut list = [MARK; Board::DUTIES];
     let told = ask(s, &mut list);
     match check(s) {
-        Err(fault) => Ok(compared_refused(fault, &told)),
-        Ok(()) => {
-            let contents = Contents::read(alloc, s)?;
-            Ok(compared_walked(s, &contents, &told))
-        }
+        Err(fault) => compared_refused(fault, &told),
+        Ok(()) => compared_walked(s, &Contents::read(s), &told),
     }
 }
 
@@ -139,14 +135,14 @@ struct Tallies {
 // Compare the file in the first bytes of a buffer, so many, and count it. Name the board, if the answer is
 // wrong and few were before.
 fn count_file(
-    rt: &(impl Print + AllocGlobal),
+    rt: &impl Print,
     tally: &mut Tally,
     board: u32,
     buffer: &[u8],
     length: u32,
 ) -> io::Result<()> {
     let s = buffer.get(..length as usize).unwrap_or(buffer);
-    let outcome = compared(rt.alloc(), s)?;
+    let outcome = compared(s);
     if !outcome.right & (tally.wrong < 10) {
         println!(rt; "wrong at board {board}")?;
     }
@@ -155,14 +151,10 @@ fn count_file(
 }
 
 // Count one more board, made from its random numbers, and then damaged.
-fn count_board(
-    rt: &(impl Print + AllocGlobal),
-    tallies: &mut Tallies,
-    board: u32,
-) -> io::Result<()> {
+fn count_board(rt: &impl Print, tallies: &mut Tallies, board: u32) -> io::Result<()> {
     let draws = Draws { board };
     let mut buffer = [0u8; 640];
-    let made = make(rt.alloc(), &mut buffer, draws)?;
+    let made = make(&mut buffer, draws);
     count_file(rt, &mut tallies.made, board, &buffer, made)?;
     let damaged = damage(&mut buffer, draws, made);
     count_file(rt, &mut tallies.damaged, board, &buffer, damaged)

@@ -9,7 +9,6 @@ use crate::draws::Draws;
 use crate::parts::{Part, total};
 use crate::rules::{Act, Held};
 use board::What;
-use std::alloc::{AllocError, Global};
 use std::ops::Range;
 
 // ---- how many there are of each
@@ -328,8 +327,8 @@ impl Plan {
     }
 
     // Put the duties, but for their serials, in the order in which they are to come.
-    fn put_duties(self, alloc: Global, s: &mut [u8]) -> Result<(), AllocError> {
-        let contents = Contents::read(alloc, s)?;
+    fn put_duties(self, s: &mut [u8]) {
+        let contents = Contents::read(s);
         let mut held = Held::read(s);
         let mut window = Window::from(self.draws, 6, self.first_minute());
         for i in 0..self.duties {
@@ -338,7 +337,6 @@ impl Plan {
             held = held.after(act.what);
             window = Window::from(self.draws, i, window.next_start(self.draws, i));
         }
-        Ok(())
     }
 
     // ---- serials
@@ -395,12 +393,12 @@ fn put_duty(s: &mut [u8], place: u16, act: Act, window: Window) {
 }
 
 // Put the file of a random board at the start of a buffer of zeros, and answer its length.
-pub(crate) fn make(alloc: Global, s: &mut [u8], draws: Draws) -> Result<u32, AllocError> {
+pub(crate) fn make(s: &mut [u8], draws: Draws) -> u32 {
     let plan = Plan::by(draws);
     plan.put_header(s);
     plan.put_holdings(s);
     plan.put_rights(s);
-    plan.put_duties(alloc, s)?;
+    plan.put_duties(s);
     plan.put_serials(s);
-    Ok(total(s))
+    total(s)
 }

@@ -116,7 +116,7 @@ fn meets(set: u32, rule: &Rule, forgotten: bool) -> bool {
 impl Contents {
     // Whether some permission allows a doer with this set the use.
     fn may_use(&self, doer: u32, action: u16, object: u16) -> bool {
-        self.permissions
+        self.permissions()
             .iter()
             .any(|p| allows_use(p, doer, action, object))
     }
@@ -129,7 +129,7 @@ impl Contents {
             target
         };
         let forgotten = by == Some(Shortcut::Unbarred);
-        self.rules.iter().any(|rule| {
+        self.rules().iter().any(|rule| {
             is_for(rule, what) & has(doer, rule.actor) & meets(judged, rule, forgotten)
         })
     }
@@ -147,7 +147,7 @@ impl Contents {
 
     // The duty with a serial and its place, from 0 on.
     pub(crate) fn with_serial(&self, serial: Serial) -> Option<(usize, &Duty)> {
-        self.duties
+        self.duties()
             .iter()
             .enumerate()
             .find(|(_, duty)| duty.serial == serial)
@@ -212,7 +212,7 @@ pub(crate) struct Orders<'a> {
 impl<'a> Orders<'a> {
     // Whether the duty at a place may come next: it is open, and no open duty has to come before it.
     pub(crate) fn may_come_next(&self, point: &Point, place: usize, duty: &Duty) -> bool {
-        let duties = self.contents.duties.iter();
+        let duties = self.contents.duties().iter();
         let is_held_back = duties.zip(&point.done).any(|(other, done)| !*done
             & comes_before(self.by, other, duty));
         point.is_open(place) & !is_held_back
@@ -229,7 +229,7 @@ impl<'a> Orders<'a> {
 
     // Whether a duty that is done revokes what this one needs.
     fn is_need_taken(&self, point: &Point, duty: &Duty) -> bool {
-        let duties = self.contents.duties.iter();
+        let duties = self.contents.duties().iter();
         duties
             .zip(&point.done)
             .any(|(other, done)| *done & self.takes_need(other, duty))

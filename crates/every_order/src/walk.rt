@@ -46,7 +46,7 @@ impl<'a> Orders<'a> {
             return Met::WALKED;
         }
         let mut met = Met::NONE;
-        for (place, duty) in self.contents.duties.iter().enumerate() {
+        for (place, duty) in self.contents.duties().iter().enumerate() {
             if self.may_come_next(point, place, duty) {
                 let more = if self.permit(point, duty) {
                     self.walk_from(&point.after(place, duty), left - 1)
@@ -63,5 +63,5 @@ impl<'a> Orders<'a> {
 // Walk every allowed order of a board file.
 pub(crate) fn walk(s: &[u8], contents: &Contents, by: Option<Shortcut>) -> Met {
     let orders = Orders { contents, by };
-    orders.walk_from(&Point::start(s), contents.duties.len())
+    orders.walk_from(&Point::start(s), contents.duties().len())
 }

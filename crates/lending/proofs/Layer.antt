@@ -1,9 +1,10 @@
--- One walk for admit, act and withdraw, lent: over the request's type, the call by value and its promise.
+-- One walk for three calls with a list, lent, where the call by value gives an `Outcome`: over the request's
+-- type, the call by value and its promise. (The calls of crate live give a `Result`, and the check walks them.)
 --     fn f(b: &mut Board, list: &mut [u32], q: Q) -> Answer {
 --         let o = value::f(*b, list, q); if o.accepted { *b = o.board; } o.answer }
 --     Call             what one of them asks and promises
 --     value-.., lent-..    the two signatures and contracts and the layer's MIR, as `rattle check` makes them
---                      of each call; a call's own compute to these
+--                      of a call of this form; a call's own compute to these
 --     layer            where the call by value meets its contract, the lent one meets its own
 -- The borrow of the board is opened and the board copied out. The call gets the copy, and the borrow of the
 -- list for good. If it accepted, the board that it gave is stored over the old one; if not, its promise says

@@ -1,4 +1,4 @@
--- One walk for admit, act and withdraw, run lent on a board by value: over the `Call` of the lent layer.
+-- One walk for three calls of the form that crate lending walks, run lent on a board by value: over its `Call`.
 --     fn f(b: Board, list: &mut [u32], q: Q) -> Left {
 --         let mut board = b; let answer = live::f(&mut board, list, q); Left { answer, board } }
 --     once-.., once    the signature and contract and the MIR, as `rattle check` makes them of each call

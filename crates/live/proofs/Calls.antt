@@ -1,4 +1,4 @@
--- What admit, act and withdraw ask and promise, for the walk that they share.
+-- What admit, act and withdraw ask and promise, for the walk in crate lending.
 use mathlib.Core.Path.{refl}
 use Rattle.requests.specs.contracts.RequestAdmit as RequestAdmit
 use Rattle.requests.proofs.RequestAdmit.TheLaws as RequestAdmit'
