@@ -24,7 +24,8 @@ pub struct Ask {
     pub barred: u32,
 }
 
-// Two numbers in one, the first above the second.
+// Two numbers in one, the first above the second, so that both are compared at once: as a pair they are
+// compared with a branch more at each turn of a search.
 fn joined(first: u16, second: u16) -> u32
     ensures { result ≡ key_of first second }
 {

@@ -146,7 +146,8 @@ fn red(order: &'static [u32]) -> Wanted {
     Wanted::red(order, u32::from(NOTHING), 0)
 }
 
-// The k-th board, from 1 on: document 01's number, and then the second boards of 6 and 9.
+// The k-th board, from 1 on: document 01's number, and then the second boards of 6 and 9. An array of them
+// would be no plainer: all files would be made at once.
 pub(crate) fn opening_of(k: u8) -> Opening {
     match k {
         1 => opens("1", small(NOTHING, &[]), green(NOTHING, 0)),

@@ -62,8 +62,8 @@ pub(crate) fn duty(record: &[u8]) -> Duty {
 // More than there are records of a kind in a file that is made here.
 const ROOM: usize = 32;
 
-// The permissions, rules and duties of a file, each at the start of its room, and how many there are: rooms of
-// a fixed size, since nothing here allocates.
+// The permissions, rules and duties of a file, each at the start of its room, and how many there are: rooms
+// of a fixed size, since nothing here allocates.
 #[derive(Clone, Copy)]
 pub(crate) struct Contents {
     permissions: [Permission; ROOM],

@@ -1,6 +1,6 @@
 // An independent check of reading and verdict: small random boards, each as the bytes of its file, as made
 // and then damaged. Each file is read and every allowed order walked by code that shares nothing with the
-// board's, and the board's answer on the same bytes is compared with what was met.
+// board's but its plain types, and the board's answer on the same bytes is compared with what was met.
 #![tactic(auto)]
 
 mod bytes;

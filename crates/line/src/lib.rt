@@ -61,7 +61,7 @@ fn shown(length: usize, list: &[u32]) -> &[u32]
 }
 
 // Write the line for an answer, with the number of duties of the board and the lent list, to the start of
-// the room, and answer its length.
+// the room, and answer its length. A line tells an answer in numbers, so it is asked for one (`line_of`).
 pub fn write_line(answer: Answer, duties: u16, list: &[u32], out: &mut [u8; ROOM]) -> usize
     ensures { Put (line_of answer duties list.now)
         out.old 0 out.new result }

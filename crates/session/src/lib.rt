@@ -18,7 +18,8 @@ pub const SIZE: usize = 32;
 // The longest list that is lent to a call.
 pub const LENT: usize = 256;
 
-// A record: the number of its kind, and its fields.
+// A record: the number of its kind, as the bytes have it, and its fields. `Kind` is made of the number, where
+// it is that of a kind.
 #[derive(Clone, Copy)]
 pub struct Record {
     pub kind: u16,

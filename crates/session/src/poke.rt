@@ -7,7 +7,7 @@ ghost use Rattle.session.specs.Pokes.{poked_board};
 use crate::Record;
 use board::{Board, Serial};
 
-// A value cut to two bytes.
+// A value cut to two bytes: no cast may lose bits, so it says what it keeps.
 fn low(value: u32) -> u16
     ensures { result ≡ value % 65536 }
 {

@@ -11,9 +11,9 @@ use std::io::Read;
 // These are the next bytes of the reader, in their order, and there are fewer than the room holds only where
 // the input ends with them. A read that fails ends it with that error; the bytes that were read before then
 // stand at the start of the room, which was not full, but how many they were is not told. That it fails only
-// where a read does no clause can say, since no clause of `Read` says when that is: the programs' runs show it.
-// How far a turn gets is told by the read, so `done` is no count of turns, and no `for` over the places of the
-// room can stand for the loop.
+// where a read does no clause can say, since no clause of `Read` says when that is: the programs' runs show
+// it. How far a turn gets is told by the read, so `done` is no count of turns, and no `for` over the places
+// of the room can stand for the loop.
 pub fn read_full<R: Read>(reader: &mut R, room: &mut [u8]) -> io::Result<usize>
     ensures within { IfOk result (λ n. n ≤ length room.new) }
     ensures room { length room.new ≡ length room.old }

@@ -27,8 +27,8 @@ pub struct Trouble {
 }
 
 // What makes a board red with these holdings: the duties, so many as a board has room for, and what is asked
-// for each. The table of mends is made where a setter first spoils a need, and that duty is judged again; many
-// boards need none.
+// for each. The table of mends is made where a setter first spoils a need, and that duty is judged again;
+// many boards need none.
 pub fn trouble_of(
     duties: &[Duty],
     asks: &[Option<Ask>; Board::DUTIES],
@@ -41,8 +41,8 @@ pub fn trouble_of(
     let gathered = setters_of(&duties[..n]);
     let setters = &gathered.all[..gathered.count];
     let users = users_of(setters);
-    // Until the table is made nothing mends, since nothing starts after the last minute. It is made late, since
-    // many boards need none: by docs/SPEED.md that takes a quarter off a check of them.
+    // Until the table is made nothing mends, since nothing starts after the last minute. It is made late,
+    // since many boards need none: by docs/SPEED.md that takes a quarter off a check of them.
     let unmended = [LAST_MINUTE; Board::DUTIES];
     let mut mends: Option<[u32; Board::DUTIES]> = None;
     for (i, d) in duties[..n].iter().enumerate() {

@@ -46,6 +46,7 @@ pub(crate) fn makes_wrong(x: Setter, mend: u32, d: Duty, ask: Ask, actor: u32) -
     if mend < d.start {
         return false;
     }
+    // Compared as numbers: with the derived comparison of serials the proof did not close.
     let serial = d.serial;
     let other = x.serial;
     if other.0 == serial.0 {
