@@ -209,6 +209,8 @@ impl Board {
 
 // What a call answers: its number, the serial of a duty that was admitted (else 0), and the length of what
 // stands at the start of the lent list or buffer: a failing order, or a saved file (0 where there is none).
+// The promises (`Called`, `Checked`, `Saves`, `Told`) speak of it, and lines and sessions tell it in these
+// numbers; a call itself gives a `Result`.
 #[derive(Clone, Copy, PartialEq, Eq)]
 pub struct Answer {
     pub number: u8,

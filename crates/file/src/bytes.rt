@@ -1,4 +1,5 @@
-// Numbers in the bytes of a board file, the low byte first.
+// Numbers in the bytes of a board file, the low byte first: two bytes and four make numbers of two types, by a
+// library function each, so one function over both would be no plainer.
 ghost use Rattle.std.specs.Prelude.{◌≡◌, ◌+◌, ◌≤◌, length};
 ghost use Rattle.layout.specs.Bytes.{two, four};
 

@@ -82,7 +82,7 @@ pub const LONGEST: usize = HEADER
     + Board::RULES * RULE
     + Board::DUTIES * DUTY;
 
-// Where the permissions start.
+// Where the permissions start. Each part starts where the one before it ends, so each has its own sum.
 pub fn permissions_from(counts: Counts) -> usize
     ensures { result ≡ permissions_from counts }
 {

@@ -11,7 +11,7 @@ ghost use Rattle.permitted.specs.Meets.{meets_sets};
 
 use board::{Asked, Board, Permission, Rule, What};
 
-// ---- what is asked
+// ---- what is asked: permissions and rules are found by other fields and ask other things
 
 // The permission for the action and the object.
 fn permission_for(permissions: &[Permission], action: u16, object: u16) -> Option<Permission>

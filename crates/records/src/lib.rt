@@ -27,7 +27,7 @@ pub fn counts_fit(counts: Counts, next: Serial) -> bool
                     & ((duties <= Board::DUTIES) & ((1 <= next.0) & (next.0 <= Board::NEXT))))))
 }
 
-// ---- one record
+// ---- one record: each kind has its own fields and its own rule, so there is a test for each
 
 // Whether no bit at or above the role count is set.
 #[tactic(auto, using(crate::proofs::Sets::shifted_out, crate::proofs::Sets::all_below))]
@@ -86,8 +86,8 @@ pub fn joined(a: u16, b: u16) -> u32
     a as u32 * 65536 + (b as u32)
 }
 
-// Whether a permission is below another, by action and then object. They are compared as one number, since the
-// test of a full board takes a seventh longer where pairs are compared.
+// Whether a permission is below another, by action and then object. They are compared as one number, since
+// the test of a full board takes a seventh longer where pairs are compared.
 #[tactic(auto, using(crate::proofs::Pairs::joined_below))]
 pub fn permission_below(p: Permission, q: Permission) -> bool
     ensures { result ≡ g.permission_below p q }
