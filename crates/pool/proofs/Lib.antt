@@ -1,2 +1,3 @@
+pub mod Turns
 pub mod ClosedUp
 pub mod FoundLaws
