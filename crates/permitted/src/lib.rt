@@ -1,7 +1,7 @@
 // One act: what it asks, whether that is met, what it changes.
 #![tactic(auto)]
 
-ghost use Rattle.std.specs.Prelude.{◌≡◌, get_or, set};
+ghost use Rattle.std.specs.Prelude.{◌≡◌, ◌+◌, ◌*◌, ◌<◌, get_or, set};
 ghost use Rattle.orders.specs.Lists.{find};
 ghost use Rattle.board.specs.View.{view};
 ghost use Rattle.board.specs.Permitted.{is_for, governs, by_permission, by_rule, asked_for};
@@ -13,6 +13,20 @@ use board::{Asked, Board, Permission, Rule, What};
 
 // ---- what is asked: permissions and rules are found by other fields and ask other things
 
+// An action and an object in one number, as they stand in memory, so that both are compared at once.
+fn in_one(action: u16, object: u16) -> u32
+    ensures { (result ≡ action + object * 65536) × (action < 65536) }
+{
+    action as u32 + object as u32 * 65536
+}
+
+// Whether a permission is for the action and the object.
+fn is_for(p: Permission, action: u16, object: u16) -> bool
+    ensures { result ≡ is_for action object p }
+{
+    in_one(p.action, p.object) == in_one(action, object)
+}
+
 // The permission for the action and the object.
 fn permission_for(permissions: &[Permission], action: u16, object: u16) -> Option<Permission>
     ensures { result ≡ find (is_for action object) permissions.now }
@@ -20,7 +34,7 @@ fn permission_for(permissions: &[Permission], action: u16, object: u16) -> Optio
     permissions
         .iter()
         .copied()
-        .find(|p| p.action == action && p.object == object)
+        .find(|p| is_for(*p, action, object))
 }
 
 // What a use of the action on the object asks: the role of its permission.

@@ -1,12 +1,13 @@
--- Laws of putting bytes at a place: nothing put, and bytes put after bytes, of which every line is made.
--- Putting keeps the room's length, so what is put next stands where the first ended.
+-- Laws of putting bytes at a place: nothing put, one byte put, and bytes put after bytes, of which every line
+-- is made. Putting keeps the room's length, so what is put next stands where the first ended.
 use mathlib.Core.Path.{◌≡◌, refl, sym, ◌∙◌}
-use mathlib.Core.List.{List, [], ◌++◌, append_assoc}
-use Prim.Native.Nat.{ℕ, ◌+◌, ◌≤◌}
+use mathlib.Core.List.{List, [], ◌∷◌, ◌++◌, append_assoc}
+use Prim.Native.Nat.{ℕ, ◌+◌, ◌≤◌, ◌<◌}
 use native.Mathlib.Nat.{add-zero}
+use native.Mathlib.Numerals.{add-one}
 use native.Mathlib.Omega.{arith}
-use lib.ListN.{length, take, drop, length-append, length-take, take-append-drop}
-use lib.Seq.{take_at, drop_at, drop-drop}
+use lib.ListN.{length, take, drop, set, length-append, length-take, length-set, take-append-drop}
+use lib.Seq.{set_split, take_at, drop_at, drop-drop}
 use Rattle.put.specs.Put.{Put}
 
 -- two outcomes of one put are equal
@@ -17,6 +18,15 @@ put_once p q = (p.list ∙ sym q.list, p.place ∙ sym q.place)
 pub put_nothing : (l : List ℕ) (at : ℕ) → at ≤ length l → Put [] l at l at
 put_nothing l at h =
     record { list = rw (add-zero, take-append-drop); place = omega arith; fits = h; kept = refl }
+
+pub put_one : (l : List ℕ) (at b : ℕ) → at < length l → Put (b ∷ []) l at (set l at b) (at + 1)
+put_one l at b h =
+    record {
+      list = rw add-one (set_split l at b h);
+      place = refl;
+      fits = omega arith;
+      kept = length-set l at b;
+    }
 
 pub put_then : {a b x y z : List ℕ} {at m n : ℕ} → Put a x at y m → Put b y m z n → Put (a ++ b) x at z n
 put_then {a} {b} {x} {y} {z} {at} {m} {n} p q =

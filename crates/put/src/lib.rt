@@ -17,9 +17,8 @@ impl Writer<'_> {
         ensures written { HasRoom (length bytes.now) self.old → Writes bytes.now self.old self.new }
         ensures no_room { (HasRoom (length bytes.now) self.old → ⊥) → WritesNothing self.old self.new }
     {
-        let left = self.room.len().saturating_sub(self.at);
-        if self.at <= self.room.len() && bytes.len() <= left {
-            let next = self.at + bytes.len();
+        let next = self.at.saturating_add(bytes.len());
+        if next <= self.room.len() {
             self.room[self.at..next].copy_from_slice(bytes);
             self.at = next;
         }

@@ -39,16 +39,37 @@ pub(crate) fn put_answer(out: &mut impl Write, answer: Answer, list: &[u32]) -> 
     put_order(out, answer, list)
 }
 
-// The line of a save: its numbers, and after a space the bytes that were written, in hexadecimal, where there
-// are any.
+// The hexadecimal digit of a number, of which the last four bits count.
+fn digit(bits: u8) -> u8 {
+    let d = bits % 16;
+    if d < 10 { b'0' + d } else { b'a' - 10 + d }
+}
+
+// How many bytes are put in hexadecimal together.
+const ROW: usize = 32;
+
+// Put bytes in hexadecimal, a row of them at a time: a formatted write for each takes ten times as long.
+fn put_bytes(out: &mut impl Write, bytes: &[u8]) -> io::Result<()> {
+    for row in bytes.chunks(ROW) {
+        let mut text = [0u8; 2 * ROW];
+        for (pair, byte) in text.chunks_exact_mut(2).zip(row) {
+            if let [high, low] = pair {
+                *high = digit(*byte / 16);
+                *low = digit(*byte);
+            }
+        }
+        out.write_all(&text[..2 * row.len().min(ROW)])?;
+    }
+    Ok(())
+}
+
+// The line of a save: its numbers, and after a space the bytes that were written, where there are any.
 pub(crate) fn put_save(out: &mut impl Write, answer: Answer, buffer: &[u8]) -> io::Result<()> {
     put_numbers(out, answer)?;
     if answer.length != 0 {
         write!(out, " ")?;
     }
-    for byte in buffer.iter().take(answer.length) {
-        write!(out, "{byte:02x}")?;
-    }
+    put_bytes(out, &buffer[..answer.length.min(buffer.len())])?;
     writeln!(out)
 }
 
