@@ -8,7 +8,7 @@ use Prim.Native.Nat.{ℕ, suc, ◌+◌, ◌≤◌, ◌<◌}
 use native.Mathlib.Numerals.{add-one}
 use native.Mathlib.Omega.{arith}
 use lib.Dec.{eqb, leb}
-use lib.ListN.{length, drop, get_or, length-set, length-take, drop_of_length-le}
+use lib.ListN.{length, drop, get_or, length-set, drop_of_length-le}
 use lib.Seq.{drop-cons, take-length}
 use borrow.Author.Tests.{eq-eqb}
 use Rattle.orders.specs.Lists.{Mem, keep}
@@ -18,10 +18,10 @@ use Rattle.asks.specs.declared.Ask.{Ask}
 use Rattle.asks.specs.Asks.{AskedBy}
 use Rattle.board.specs.declared.Duty.{Duty}
 use Rattle.board.specs.Filler.{no_duty}
-use Rattle.in_order.specs.InOrder.{place_in_key, by_keys, OfTheFirst}
+use Rattle.in_order.specs.InOrder.{place_in_key, by_keys}
 use Rattle.in_order.proofs.ByKeys.{as_many, at_key}
 use Rattle.trails.specs.Walking.{Walk, in_trail, trail_of, do_one, do_all, set_out}
-use Rattle.trails.specs.Walking.{ask_at, AskedInTurn, PartDone, Found, Walked}
+use Rattle.trails.specs.Walking.{ask_at, AskedInTurn, PartDone, Found, OfThese, Walked}
 
 -- ---- one duty, and one part after another
 
@@ -99,18 +99,12 @@ module _ {order : List Duty} {asks : ℕ → Option Ask} {passes : Duty → Bool
 
 -- the key at a place is one of all, and its duty is the one at the key's place
 pub at_turn :
-    (duties : List Duty) (keys : List ℕ) (k : ℕ) → k < length keys → OfTheFirst duties (length keys) keys →
-    let place = place_in_key (get_or keys k 0) in
-    (k < length (by_keys duties (length keys) keys))
-    × (place < length duties)
-    × (get_or (by_keys duties (length keys) keys) k no_duty ≡ get_or duties place no_duty)
-at_turn duties keys k h inside =
-    let many = as_many duties (length keys) keys in
-    let within = inside k (omega (arith, length-take (length keys) keys)) in (
-      omega (arith, many),
-      omega (arith, within, length-take (length keys) duties),
-      at_key duties (length keys) keys k h h,
-    )
+    (duties : List Duty) (keys : List ℕ) (k : ℕ) → k < length keys
+    → (k < length (by_keys duties (length keys) keys))
+    × (get_or (by_keys duties (length keys) keys) k no_duty
+    ≡ get_or duties (place_in_key (get_or keys k 0)) no_duty)
+at_turn duties keys k h =
+    (omega (arith, as_many duties (length keys) keys), at_key duties (length keys) keys k h h)
 
 -- where the duty at each place has another serial, none has this one
 pub nowhere :
@@ -181,13 +175,11 @@ module _ (duties : List Duty) (asks : List (Option Ask)) (keys sets : List ℕ) 
   -- what is asked for the duties is asked for them in the order of the keys
   asked_in_order :
       (asked : Duty → Option Ask) → AskedBy asked duties (length duties) asks
-      → OfTheFirst duties (length keys) keys → AskedInTurn asked order (ask_at asks keys)
+      → OfThese duties keys → AskedInTurn asked order (ask_at asks keys)
   asked_in_order asked are inside k h =
-      let many = as_many duties (length keys) keys in
-      let place = place_in_key (get_or keys k 0) in
-      let within = inside k (omega (arith, many, length-take (length keys) keys)) in
-      are place (omega (arith, length-take (length keys) duties))
-      ∙ ap asked (sym (at_key duties (length keys) keys k (omega arith) (omega arith)))
+      let key : k < length keys = omega (arith, as_many duties (length keys) keys, h) in
+      are (place_in_key (get_or keys k 0)) (inside k key)
+      ∙ ap asked (sym (at_key duties (length keys) keys k key key))
 
   -- the duty with a serial is the one found, and so is what is asked for it
   record Known (asked : Duty → Option Ask) (found : Duty × Option Ask) (y : Duty) : Type 0 where
@@ -207,18 +199,16 @@ module _ (duties : List Duty) (asks : List (Option Ask)) (keys sets : List ℕ) 
   module _ {x_found d_found : Duty × Option Ask} (x_at : Found duties asks spoiler (Some x_found))
       (d_at : Found duties asks stuck (Some d_found)) where
     abbrev Part : Bool → Walk × List ℕ → Walk × List ℕ → Type 0
-    Part late from to =
-        OfTheFirst duties (length keys) keys
-        → PartDone order (ask_at asks keys) (in_trail late x_found.0 d_found.0) from to
+    Part late from to = PartDone order (ask_at asks keys) (in_trail late x_found.0 d_found.0) from to
 
     module _ {first : Walk × List ℕ} (p : Part false (set_out sets before) first) where
       first_is :
           (asked : Duty → Option Ask) → AskedBy asked duties (length duties) asks
-          → OfTheFirst duties (length keys) keys → {x d : Duty} → Known asked x_found x
+          → OfThese duties keys → {x d : Duty} → Known asked x_found x
           → Known asked d_found d
           → first ≡ one_part asked order x d (set_out sets before)
       first_is asked are inside at_x at_d =
-          rw (at_x.duty, at_d.duty) at (p inside asked (asked_in_order asked are inside))
+          rw (at_x.duty, at_d.duty) at (p asked (asked_in_order asked are inside))
 
       pub stuck_first : first.0.stuck ≡ true → Walked duties asks keys sets spoiler stuck before first
       stuck_first s asked x d are inside unique x_in x_is d_in d_is =
@@ -230,7 +220,7 @@ module _ (duties : List Duty) (asks : List (Option Ask)) (keys sets : List ℕ) 
       module _ {second : Walk × List ℕ} (q : second ≡ do_one x_found.1 first x_found.0) where
         second_is :
             (asked : Duty → Option Ask) → AskedBy asked duties (length duties) asks
-            → OfTheFirst duties (length keys) keys → {x d : Duty} → Known asked x_found x
+            → OfThese duties keys → {x d : Duty} → Known asked x_found x
             → Known asked d_found d → second ≡ two_parts asked order x d (set_out sets before)
         second_is asked are inside at_x at_d =
             rw (at_x.duty, at_x.ask, first_is asked are inside at_x at_d) at q
@@ -245,12 +235,12 @@ module _ (duties : List Duty) (asks : List (Option Ask)) (keys sets : List ℕ) 
         module _ {third : Walk × List ℕ} (r : Part true second third) where
           third_is :
               (asked : Duty → Option Ask) → AskedBy asked duties (length duties) asks
-              → OfTheFirst duties (length keys) keys → {x d : Duty} → Known asked x_found x
+              → OfThese duties keys → {x d : Duty} → Known asked x_found x
               → Known asked d_found d → third ≡ three_parts asked order x d (set_out sets before)
           third_is asked are inside at_x at_d =
               rw
               (at_x.duty, at_d.duty, second_is asked are inside at_x at_d)
-              at (r inside asked (asked_in_order asked are inside))
+              at (r asked (asked_in_order asked are inside))
 
           pub stuck_third : third.0.stuck ≡ true → Walked duties asks keys sets spoiler stuck before third
           stuck_third s asked x d are inside unique x_in x_is d_in d_is =

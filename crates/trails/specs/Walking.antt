@@ -13,7 +13,7 @@ use Rattle.board.specs.Good.{what_fits}
 use Rattle.board.specs.Limits.{max_users, max_roles}
 use Rattle.board.specs.Permitted.{changed}
 use Rattle.board.specs.Windows.{wholly_before}
-use Rattle.in_order.specs.InOrder.{place_in_key, by_keys, OfTheFirst}
+use Rattle.in_order.specs.InOrder.{place_in_key, by_keys}
 use Rattle.trails.specs.declared.Stuck.{Stuck}
 
 -- ---- the trail of x and d
@@ -104,6 +104,10 @@ Found duties asks serial (Some found) =
 abbrev pub InRange : List Duty → Type 0
 InRange l = (y : Duty) → Mem y l → what_fits max_users max_roles y.what ≡ true
 
+-- each of the keys is that of one of these duties
+abbrev pub OfThese : List Duty → List ℕ → Type 0
+OfThese duties keys = (k : ℕ) → k < length keys → place_in_key (get_or keys k 0) < length duties
+
 abbrev pub serials : List Duty → List ℕ
 serials l = map (λ (d : Duty). d.serial.0) l
 
@@ -114,7 +118,7 @@ abbrev pub Walked :
 Walked duties asks keys sets spoiler stuck before w =
     (asked : Duty → Option Ask) (x d : Duty)
     → AskedBy asked duties (length duties) asks
-    → OfTheFirst duties (length keys) keys
+    → OfThese duties keys
     → ((y z : Duty) → Mem y duties → Mem z duties → y.serial.0 ≡ z.serial.0 → y ≡ z)
     → Mem x duties → x.serial.0 ≡ spoiler → Mem d duties → d.serial.0 ≡ stuck
     → w ≡ do_all asked (set_out sets before) (trail_of (by_keys duties (length keys) keys) x d)
@@ -125,7 +129,7 @@ abbrev pub Written :
 Written duties asks keys sets spoiler stuck before after r =
     (asked : Duty → Option Ask) (x d : Duty)
     → AskedBy asked duties (length duties) asks
-    → OfTheFirst duties (length keys) keys
+    → OfThese duties keys
     → ((y z : Duty) → Mem y duties → Mem z duties → y.serial.0 ≡ z.serial.0 → y ≡ z)
     → Mem x duties → x.serial.0 ≡ spoiler → Mem d duties → d.serial.0 ≡ stuck →
     let w = do_all asked (set_out sets before) (trail_of (by_keys duties (length keys) keys) x d) in

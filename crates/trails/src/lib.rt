@@ -3,7 +3,8 @@
 #![tactic(auto)]
 
 ghost use Rattle.std.specs.Prelude.{◌≡◌, length, get_or};
-ghost use Rattle.in_order.specs.InOrder.{by_keys, OfTheFirst};
+ghost use Rattle.board.specs.Filler.{no_duty};
+ghost use Rattle.in_order.specs.InOrder.{by_keys};
 ghost use Rattle.trails.specs.Walking.{in_trail, meets_ask, walking, do_one};
 ghost use Rattle.trails.specs.Walking.{ask_at, PartDone, Found, Walked, Written};
 
@@ -19,6 +20,13 @@ pub struct Open<'a> {
 }
 
 impl Open<'_> {
+    // The duty at a place; filler beyond them.
+    fn duty(&self, place: usize) -> Duty
+        ensures { result ≡ get_or self.now.duties.now place no_duty }
+    {
+        self.duties.get(place).copied().unwrap_or(Duty::filler())
+    }
+
     // What is asked for the duty at a place.
     fn ask(&self, place: usize) -> Option<Ask>
         ensures { result ≡ get_or self.now.asks.now place None }
@@ -99,8 +107,7 @@ fn do_part(
     holdings: &mut [u32; Board::USERS],
     list: &mut [u32],
 ) -> Result<usize, Stuck>
-    ensures { OfTheFirst all.entry.duties.now (length all.entry.keys.now) all.entry.keys.now
-        → PartDone (by_keys all.entry.duties.now (length all.entry.keys.now) all.entry.keys.now)
+    ensures { PartDone (by_keys all.entry.duties.now (length all.entry.keys.now) all.entry.keys.now)
         (ask_at all.entry.asks.now all.entry.keys.now) (in_trail late x d)
         (walking holdings.old (Ok at) list.old)
         (walking holdings.new result list.new) }
@@ -108,11 +115,9 @@ fn do_part(
     let mut next = at;
     for key in all.keys {
         let place = (*key % Board::DUTIES as u64) as usize;
-        let Some(y) = all.duties.get(place) else {
-            continue;
-        };
-        if in_trail(*y, x, d, late) {
-            next = do_one(*y, all.ask(place), next, holdings, list)?;
+        let y = all.duty(place);
+        if in_trail(y, x, d, late) {
+            next = do_one(y, all.ask(place), next, holdings, list)?;
         }
     }
     Ok(next)

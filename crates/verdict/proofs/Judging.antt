@@ -37,7 +37,7 @@ use Rattle.board.proofs.PoolLaws.{duties_pool}
 use Rattle.in_order.specs.InOrder.{by_keys, InOrder}
 use Rattle.in_order.proofs.Allowed.{rising_order}
 use Rattle.in_order.proofs.ByKeys.{in_order_alone}
-use Rattle.trails.specs.Walking.{serials, InRange, Written}
+use Rattle.trails.specs.Walking.{serials, InRange, OfThese, Written}
 use Rattle.trails.proofs.Cutting.{trail_written}
 use Rattle.troubles.specs.Troubles.{Stuck, Troubled}
 use Rattle.quick_criterion.proofs.NotRed.{WithinLimits, good_limits, not_red}
@@ -134,6 +134,10 @@ module _ (b : Board) (sized : Sized b) (is_good : good b ≡ true) where
       now_fails : Failing W (held_in v.holdings) pool cut
       now_fails = subst (λ (t : Holding → Bool). Failing W t pool cut) same_state cut_fails
 
+      -- each key is that of an open duty
+      theirs : OfThese pool keys
+      theirs k h = rw all at (in_order.inside k (omega (arith, length-take (length keys) keys)))
+
       short : length cut ≤ max_duties
       short =
           omega (arith, few, failing_length W pool pool_right s cut cut_fails, length-take n b.duties)
@@ -154,7 +158,7 @@ module _ (b : Board) (sized : Sized b) (is_good : good b ≡ true) where
           let written =
           trail_written v o x d b.holdings before sized.holdings range (omega (arith, short, room)) in
           let same =
-          walked (ask_of v) x d right in_order.inside
+          walked (ask_of v) x d right theirs
           (λ y z m k e. same_serial W pool pool_right.distinct m k e) open_x named_x open_d named_d in
           record {
             order = serials cut;

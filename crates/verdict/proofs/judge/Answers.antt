@@ -1,7 +1,6 @@
 -- `verdict::judge` meets its contract: where no duty is open or `trouble_of` finds nothing the board is
 -- green, and what it finds makes the order that `write_order` walks a failing one.
 use mathlib.Core.Path.{refl}
-use native.Mathlib.Omega.{arith}
 use borrow.Author.Rules.{rules}
 use Rattle.board.proofs.Sized.{sized}
 use Rattle.verdict.proofs.Judging.{whole, nothing_green, none_green, found_red}
