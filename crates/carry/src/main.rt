@@ -17,7 +17,8 @@ fn turn(b: Board, r: Record) -> Board {
     }
     let mut list = [0u32; LENT];
     let n = session::lent_by(r.lent);
-    session::called(b, r, &mut list[..n]).map_or(b, |accepted| accepted.board)
+    let called = session::called(b, r, &mut list[..n]);
+    outcomes::board_left(&b, &called)
 }
 
 // Put the file of the board after the calls at the start of the buffer, and answer its length; or why there

@@ -20,17 +20,20 @@ pub(crate) trait Way {
     fn called(b: Board, ask: Ask, list: &mut [u32]) -> Left;
 }
 
+// What a call that answers no serial left.
+fn plainly(left: (Result<(), Refusal>, Board)) -> Left {
+    let (done, board) = left;
+    let answer = done.map_or_else(Answer::from, |()| Answer::plain(Answer::DONE));
+    Left { answer, board }
+}
+
 pub(crate) struct ByValue;
 
 impl Way for ByValue {
     const PREFIX: &'static str = "";
 
     fn open(s: &[u8], list: &mut [u32]) -> Left {
-        let opened = open::open(s, list);
-        Left {
-            answer: opened.map_or_else(Answer::from, |_| Answer::plain(Answer::DONE)),
-            board: opened.unwrap_or(Board::smallest()),
-        }
+        plainly(open::opened(s, list))
     }
 
     fn called(b: Board, ask: Ask, list: &mut [u32]) -> Left {
@@ -42,19 +45,12 @@ impl Way for ByValue {
         };
         Left {
             answer: called.map_or_else(Answer::from, |accepted| Answer::done(accepted.serial)),
-            board: called.map_or(b, |accepted| accepted.board),
+            board: outcomes::board_left(&b, &called),
         }
     }
 }
 
 pub(crate) struct Lent;
-
-// What a lent call that answers no serial left.
-fn plainly(left: (Result<(), Refusal>, Board)) -> Left {
-    let (done, board) = left;
-    let answer = done.map_or_else(Answer::from, |()| Answer::plain(Answer::DONE));
-    Left { answer, board }
-}
 
 impl Way for Lent {
     const PREFIX: &'static str = "lent ";

@@ -1,5 +1,5 @@
-// What an accepted call on the live board gives back, by value; what the calls with a lent list test first;
-// and the board after a call judged, for 8.
+// What an accepted call on the live board gives back, by value, and the board that a call leaves; what the
+// calls with a lent list test first; and the board after a call judged, for 8.
 #![tactic(auto)]
 
 ghost use Rattle.std.specs.Prelude.{◌≡◌, true};
@@ -7,7 +7,7 @@ ghost use Rattle.board.specs.declared.Board.{Board};
 ghost use Rattle.board.specs.Answers.{Answers};
 ghost use Rattle.board.specs.Good.{good};
 ghost use Rattle.board.specs.Refusals.{number_answered};
-ghost use Rattle.outcomes.specs.Outcomes.{ready_checks, Judges};
+ghost use Rattle.outcomes.specs.Outcomes.{board_left, ready_checks, Judges};
 
 use board::{Board, Refusal, Serial};
 
@@ -17,6 +17,16 @@ use board::{Board, Refusal, Serial};
 pub struct Accepted {
     pub board: Board,
     pub serial: Serial,
+}
+
+// The board that a call leaves: where it was accepted the one after it, else the board b that it was given.
+pub fn board_left(b: &Board, called: &Result<Accepted, Refusal>) -> Board
+    ensures { result ≡ board_left b.now called.now }
+{
+    match called {
+        Ok(accepted) => accepted.board,
+        Err(_) => *b,
+    }
 }
 
 // What admit, act and withdraw test first: 19, 9, 10.

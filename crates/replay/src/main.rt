@@ -30,15 +30,15 @@ impl Live {
     fn open(file: &[u8], out: &mut impl Write) -> io::Result<Live> {
         let mut list = marked();
         let n = session::lent_by(Board::DUTIES as u16);
-        let opened = open::open(file, &mut list[..n]);
+        let (opened, board) = open::opened(file, &mut list[..n]);
         let mut live = Live {
-            board: opened.unwrap_or(Board::smallest()),
+            board,
             changed: None,
         };
         live.note(is_kept(&list, &opened), 0);
         put_opening(
             out,
-            opened.map_or_else(Answer::from, |_| Answer::plain(Answer::DONE)),
+            opened.map_or_else(Answer::from, |()| Answer::plain(Answer::DONE)),
             &list,
         )?;
         Ok(live)
@@ -56,9 +56,7 @@ impl Live {
         let mut list = marked();
         let n = session::lent_by(r.lent);
         let called = session::called(self.board, r, &mut list[..n]);
-        if let Ok(accepted) = called {
-            self.board = accepted.board;
-        }
+        self.board = outcomes::board_left(&self.board, &called);
         self.note(is_kept(&list, &called), number);
         put_answer(
             out,

@@ -1,6 +1,24 @@
 // The kinds of records.
 ghost use Rattle.session.specs.Kinds.{Decodes};
 
+// The numbers of the kinds, as a record has them; those between walk and poke, and those above poke, are no
+// kind's.
+pub const ADMIT: u16 = 0;
+
+pub const ACT: u16 = 1;
+
+pub const DO: u16 = 2;
+
+pub const WITHDRAW: u16 = 3;
+
+pub const CHECK: u16 = 4;
+
+pub const SAVE: u16 = 5;
+
+pub const WALK: u16 = 6;
+
+pub const POKE: u16 = 9;
+
 // What a record asks for: a call, a save of the live board, or a poke.
 #[derive(Clone, Copy, PartialEq, Eq)]
 pub enum Kind {
@@ -25,14 +43,14 @@ impl TryFrom<u16> for Kind {
 
     fn try_from(number: u16) -> Result<Self, UnknownKind> {
         match number {
-            0 => Ok(Kind::Admit),
-            1 => Ok(Kind::Act),
-            2 => Ok(Kind::Do),
-            3 => Ok(Kind::Withdraw),
-            4 => Ok(Kind::Check),
-            5 => Ok(Kind::Save),
-            6 => Ok(Kind::Walk),
-            9 => Ok(Kind::Poke),
+            ADMIT => Ok(Kind::Admit),
+            ACT => Ok(Kind::Act),
+            DO => Ok(Kind::Do),
+            WITHDRAW => Ok(Kind::Withdraw),
+            CHECK => Ok(Kind::Check),
+            SAVE => Ok(Kind::Save),
+            WALK => Ok(Kind::Walk),
+            POKE => Ok(Kind::Poke),
             _ => Err(UnknownKind(number)),
         }
     }

@@ -9,7 +9,7 @@ mod poke;
 
 pub use call::called;
 pub use input::{file_end, file_start, lent_by, record_of};
-pub use kind::{Kind, UnknownKind};
+pub use kind::{ACT, ADMIT, CHECK, DO, Kind, POKE, SAVE, UnknownKind, WALK, WITHDRAW};
 pub use poke::poked;
 
 // How many bytes a record takes.
