@@ -1,3 +1,5 @@
 pub mod Permuted
+pub mod PutIn
+pub mod Begun
 pub mod ByKeys
 pub mod Allowed
