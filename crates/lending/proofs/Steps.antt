@@ -1,5 +1,5 @@
--- What the walks of the lent calls share: the machine values of a board, an answer and an outcome; that a
--- refused outcome's number is not that of done; and steps of the kit's calculus (`types.Kit`):
+-- What the walks of the lent calls share: the machine values of a board and of a `Result` with a refusal, and
+-- steps of the kit's calculus (`types.Kit`):
 --     at_local, at_field   a local is read, or a field of one
 --     sets             a local is assigned
 --     has              what a plain struct owns is had for nothing
@@ -7,19 +7,23 @@
 --     closes-board     the borrow is closed at the board that lies there now
 --     sinks            the first n entries go to the end
 --     leaves           all locals are freed, at a return
-use mathlib.Core.Path.{◌≡◌, refl, sym, ◌∙◌, subst}
-use mathlib.Core.Bool.{Bool, true, false, not}
-use mathlib.Core.List.{List, [], ◌∷◌, ◌++◌}
-use mathlib.Core.Option.{some}
+use mathlib.Core.Path.{◌≡◌, sym, subst}
+use mathlib.Core.List.{List, [], ◌∷◌, ◌++◌, map}
+use mathlib.Core.Option.{Option, none, some}
 use Prim.Native.Nat.{ℕ, zero, suc, ◌+◌}
 use lib.Dec.{T as Holds}
 use seplogic.Ra.Ura.{Ura}
 use base.Fraction.{full_share}
 use base.Fml.{Lft, Share, fat, froom, fdies, flft, fobs, fauth, fbor, fobor}
 use base.Logic.{SProp, ent, sep, emp, id⊢, via, comm∗, assoc∗, assoc', mono_l, mono_r, emp∗}
-use borrow.Author.Tests.{eqb-false}
+use denote.Enum.Declared as E
+use denote.Enum.Enum as Enum
+use denote.Enum.Laws as EL
 use denote.Laws.{Is, shows}
 use denote.Memory.{mem, cell_at, pointee}
+use denote.Param.Laws.{Laws as RowLaws, Told}
+use denote.Param.Plain.{IsPlain}
+use denote.RattleType.{RattleType}
 use denote.Ref.{MutBor}
 use denote.Steps.{opens, closes, owned, peeks}
 use denote.Struct.Declared.{Declared, fields, row}
@@ -39,56 +43,104 @@ use types.Kit.{pop, ++⊢, move, drop}
 use types.Part.{Part, whole, sub, look_in}
 use types.Run.{Walks, Opd, Rv, load, from, stop, fld, look, init, assigns}
 use types.SemTy.{Body}
-use Rattle.board.specs.declared.Answer.{Answer}
+use Rattle.std.specs.Prelude.{Result, Ok, Err}
+use Rattle.std.specs.contracts.result.Result as R
+use Rattle.std.proofs.result.Result.TheLaws as R'
 use Rattle.board.specs.declared.Board.{Board}
-use Rattle.board.specs.Numbers as answer
-use Rattle.board.specs.contracts.Answer as An
-use Rattle.board.proofs.Answer.TheLaws as An'
+use Rattle.board.specs.declared.Refusal.{Refusal}
 use Rattle.board.specs.contracts.Board as B
 use Rattle.board.proofs.Board.TheLaws as B'
-use Rattle.lending.specs.declared.Outcome.{Outcome}
-use Rattle.lending.specs.Flagged.{Flagged}
-use Rattle.lending.specs.contracts.Outcome as O
-use Rattle.lending.proofs.Outcome.TheLaws as O'
+use Rattle.board.specs.contracts.Refusal as F
+use Rattle.board.proofs.Refusal.TheLaws as F'
+use Rattle.outcomes.specs.declared.Accepted.{Accepted}
+use Rattle.outcomes.specs.contracts.Accepted as A
+use Rattle.outcomes.proofs.Accepted.TheLaws as A'
 
 -- ---- machine values, and what is known of them
 
 abbrev pub board_val : Board → Val
 board_val = LL.val B.the_type B'.the_laws
 
-abbrev pub answer_val : Answer → Val
-answer_val = LL.val An.the_type An'.the_laws
-
-abbrev pub outcome_val : Outcome → Val
-outcome_val = LL.val O.the_type O'.the_laws
-
 abbrev pub IsBoard : Board → Type 0
 IsBoard d = Is B.the_row d (board_val d ∷ [])
 
-abbrev pub IsAnswer : Answer → Type 0
-IsAnswer a = Is An.the_row a (answer_val a ∷ [])
-
-abbrev pub IsOutcome : Outcome → Val → Type 0
-IsOutcome r w = Is O.the_row r (w ∷ [])
-
 -- a machine value has its type
-module _ {M : Type 1} {𝓤 : Ura M} (𝓛 : Logic 𝓤) where
-  pub board_typed : (d : Board) → IsBoard d → Holds (has_ty B'.mir (board_val d)) × WT (board_val d)
-  board_typed d is = ((LL.lawful B.the_type B'.the_laws 𝓛).typed d _ is).0
+pub board_typed :
+    {M : Type 1} {𝓤 : Ura M} → (𝓛 : Logic 𝓤) → (d : Board) → IsBoard d
+    → Holds (has_ty B'.mir (board_val d)) × WT (board_val d)
+board_typed 𝓛 d is = ((LL.lawful B.the_type B'.the_laws 𝓛).typed d _ is).0
 
-  pub answer_typed :
-      (a : Answer) {w : Val} → Is An.the_row a (w ∷ []) → Holds (has_ty An'.mir w) × WT w
-  answer_typed a is = ((LL.lawful An.the_type An'.the_laws 𝓛).typed a _ is).0
+-- a type of plain data, with its laws
+pub record Data : Type 2 where
+  pub row : RattleType
+  pub laws : RowLaws row
+  pub told : Told row
+  pub plain : IsPlain row
 
-  pub outcome_typed : (r : Outcome) {w : Val} → IsOutcome r w → Holds (has_ty O'.mir w) × WT w
-  outcome_typed r is = ((LL.lawful O.the_type O'.the_laws 𝓛).typed r _ is).0
+-- a `Result` of such data with a refusal
+module _ (D : Data) where
+  abbrev pub Made : Type 0
+  Made = Result D.row.Denot Refusal
 
--- whoever holds an outcome knows this of its answer and of its board
-pub is_answer : (r : Outcome) (w : Val) → IsOutcome r w → IsAnswer r.answer
-is_answer r w is = (LL.owed O.the_type O'.the_laws r _ is).0
+  abbrev pub made_type : E.Declared
+  made_type = R.the_type D.row F.the_row
 
-pub is_board : (r : Outcome) (w : Val) → IsOutcome r w → IsBoard r.board
-is_board r w is = (LL.owed O.the_type O'.the_laws r _ is).1.1.0
+  abbrev pub made_row : RattleType
+  made_row = E.row made_type
+
+  abbrev pub made_laws : EL.Laws made_type
+  made_laws = R'.the_laws D.row F.the_row D.laws F'.the_row_laws D.told F'.the_told
+
+  abbrev pub made_ty : Ty
+  made_ty = Enum.layout (E.shape made_type)
+
+  abbrev pub made_val : Made → Val
+  made_val = EL.val made_type made_laws
+
+  abbrev pub IsMade : Made → Val → Type 0
+  IsMade r w = Is made_row r (w ∷ [])
+
+  -- what a `Result` is made of, and what whoever holds one knows of it
+  abbrev pub IsIn : D.row.Denot → Type 0
+  IsIn x = Is D.row x (D.told.val x ∷ [])
+
+  abbrev pub IsRefusal : Refusal → Type 0
+  IsRefusal e = Is F.the_row e (F'.the_told.val e ∷ [])
+
+  pub of_ok : (x : D.row.Denot) → IsIn x → IsMade (Ok x) (made_val (Ok x))
+  of_ok x is = EL.owes made_type made_laws (Ok x) (is, tt)
+
+  pub of_err : (e : Refusal) → IsRefusal e → IsMade (Err e) (made_val (Err e))
+  of_err e is = EL.owes made_type made_laws (Err e) (is, tt)
+
+  pub in_ok : (x : D.row.Denot) (w : Val) → IsMade (Ok x) w → IsIn x
+  in_ok x w is = (EL.owed made_type made_laws (Ok x) (w ∷ []) is).0
+
+  pub in_err : (e : Refusal) (w : Val) → IsMade (Err e) w → IsRefusal e
+  in_err e w is = (EL.owed made_type made_laws (Err e) (w ∷ []) is).0
+
+  pub made_typed :
+      {M : Type 1} {𝓤 : Ura M} → (𝓛 : Logic 𝓤) → (r : Made) {w : Val} → IsMade r w
+      → Holds (has_ty made_ty w) × WT w
+  made_typed 𝓛 r is = ((EL.lawful made_type made_laws 𝓛 tt).typed r _ is).0
+
+pub refusal_typed :
+    {M : Type 1} {𝓤 : Ura M} → (𝓛 : Logic 𝓤) → (e : Refusal) → Is F.the_row e (F'.the_told.val e ∷ [])
+    → Holds (has_ty F'.mir (F'.the_told.val e)) × WT (F'.the_told.val e)
+refusal_typed 𝓛 e is = ((F'.the_row_laws.lawful 𝓛).typed e _ is).0
+
+-- what an accepted call by value gives
+abbrev pub accepted : Data
+accepted = record { row = A.the_row; laws = A'.the_row_laws; told = A'.the_told; plain = A'.the_row_plain }
+
+pub accepted_typed :
+    {M : Type 1} {𝓤 : Ura M} → (𝓛 : Logic 𝓤) → (a : Accepted) → IsIn accepted a
+    → Holds (has_ty A'.mir (A'.the_told.val a)) × WT (A'.the_told.val a)
+accepted_typed 𝓛 a is = ((LL.lawful A.the_type A'.the_laws 𝓛).typed a _ is).0
+
+-- whoever holds it knows this of its board
+pub is_board : (a : Accepted) → IsIn accepted a → IsBoard a.board
+is_board a is = (LL.owed A.the_type A'.the_laws a _ is).0
 
 -- the MIR types of the references: to the board, to the list's entries, and to the list ("&[]")
 abbrev pub board_ref : Ty
@@ -99,21 +151,6 @@ entry_ref ℓ = ty_ref ℓ mut (ty_int w32)
 
 abbrev pub list_ref : Lifetime → Ty
 list_ref ℓ = ty_struct (38 ∷ 91 ∷ 93 ∷ []) (tcons (entry_ref ℓ) (tcons (ty_int w64) tnil))
-
--- what is known once a call by value has returned the machine value w
-pub record Came (Promised : Type 0) (w : Val) (r : Outcome) : Type 0 where
-  pub promised : Promised
-  pub flagged : Flagged r
-  pub is : IsOutcome r w
-
--- ---- a refused outcome's number is not that of done
-
-is_false : (y : Bool) → Holds (not y) → y ≡ false
-is_false false _ = refl
-is_false true z = absurd z
-
-pub not_done : (r : Outcome) → Flagged r → Holds (not r.accepted) → r.answer.number ≡ answer.done → ⊥
-not_done r f off = eqb-false r.answer.number answer.done (sym f.says ∙ is_false r.accepted off)
 
 -- ---- a lent board on top of a context
 
@@ -133,23 +170,24 @@ module _ {M : Type 1} (𝓤 : Ura M) (κ : Lft) (q : Share) (x : MutBor Board) w
       ∷ ‵ (fobs x.ghost_name ((B.the_row).coded.code x.now))
       ∷ ‵ (fauth x.ghost_name ((B.the_row).coded.code x.now)) ∷ Γ
 
--- ---- locals on top of a context, the last one first: a cell with its value (room, where none is given), and
+-- ---- locals on top of a context, the last one first: a cell with its value (room, where there is none), and
 -- the right to end it
 
 module _ {M : Type 1} {𝓤 : Ura M} (𝓛 : Logic 𝓤) where
   open 𝓛 use {H}
 
-  abbrev pub stacked : Env 𝓤 H → List Val → List (Item 𝓤) → List (Item 𝓤)
+  abbrev pub stacked : Env 𝓤 H → List (Option Val) → List (Item 𝓤) → List (Item 𝓤)
   stacked [] vs Γ = Γ
   stacked (e ∷ E) [] Γ = stacked E [] (‵ (froom e.0 e.1 zero) ∷ ‵ (fdies e.0 e.1) ∷ Γ)
-  stacked (e ∷ E) (v ∷ vs) Γ =
+  stacked (e ∷ E) (none ∷ vs) Γ = stacked E vs (‵ (froom e.0 e.1 zero) ∷ ‵ (fdies e.0 e.1) ∷ Γ)
+  stacked (e ∷ E) (some v ∷ vs) Γ =
       stacked E vs (‵ (fat full_share e.0 e.1 zero v) ∷ ‵ (fdies e.0 e.1) ∷ Γ)
 
   -- what a return gives up for one local
   abbrev given_up : Ty × ℕ → SProp 𝓤
   given_up e = sep 𝓤 (H.room e.0 e.1 zero) (H.dies e.0 e.1)
 
-  past : (P Q R : SProp 𝓤) → ent 𝓤 (sep 𝓤 P (sep 𝓤 Q R)) (sep 𝓤 Q (sep 𝓤 P R))
+  pub past : (P Q R : SProp 𝓤) → ent 𝓤 (sep 𝓤 P (sep 𝓤 Q R)) (sep 𝓤 Q (sep 𝓤 P R))
   past P Q R =
       via 𝓤 (sep 𝓤 (sep 𝓤 P Q) R) (assoc' 𝓤 P Q R)
       (via 𝓤 (sep 𝓤 (sep 𝓤 Q P) R) (mono_l 𝓤 R (comm∗ 𝓤 P Q)) (assoc∗ 𝓤 Q P R))
@@ -169,15 +207,20 @@ module _ {M : Type 1} {𝓤 : Ura M} (𝓛 : Logic 𝓤) where
       (via 𝓤 (sep 𝓤 (given_up e) (⋆ 𝓛 Γ))
       (assoc' 𝓤 (H.room e.0 e.1 zero) (H.dies e.0 e.1) (⋆ 𝓛 Γ)) (mono_r 𝓤 (given_up e) h))
 
-  released : Laws 𝓤 H → (E : Env 𝓤 H) (vs : List Val) (Γ : List (Item 𝓤)) (P : SProp 𝓤) → ent 𝓤 (⋆ 𝓛 Γ) P
-      → ent 𝓤 (⋆ 𝓛 (stacked E vs Γ)) (release 𝓤 H E P)
+  pub released : Laws 𝓤 H → (E : Env 𝓤 H) (vs : List (Option Val)) (Γ : List (Item 𝓤)) (P : SProp 𝓤)
+      → ent 𝓤 (⋆ 𝓛 Γ) P → ent 𝓤 (⋆ 𝓛 (stacked E vs Γ)) (release 𝓤 H E P)
   released L [] vs Γ P h = h
   released L (e ∷ E) [] Γ P h =
       via 𝓤 (release 𝓤 H E (sep 𝓤 (given_up e) P))
       (released L E [] (‵ (froom e.0 e.1 zero) ∷ ‵ (fdies e.0 e.1) ∷ Γ) (sep 𝓤 (given_up e) P)
       (one e Γ P h))
       (out_of E (given_up e) P)
-  released L (e ∷ E) (v ∷ vs) Γ P h =
+  released L (e ∷ E) (none ∷ vs) Γ P h =
+      via 𝓤 (release 𝓤 H E (sep 𝓤 (given_up e) P))
+      (released L E vs (‵ (froom e.0 e.1 zero) ∷ ‵ (fdies e.0 e.1) ∷ Γ) (sep 𝓤 (given_up e) P)
+      (one e Γ P h))
+      (out_of E (given_up e) P)
+  released L (e ∷ E) (some v ∷ vs) Γ P h =
       via 𝓤 (release 𝓤 H E (sep 𝓤 (given_up e) P))
       (released L E vs (‵ (fat full_share e.0 e.1 zero v) ∷ ‵ (fdies e.0 e.1) ∷ Γ)
       (sep 𝓤 (given_up e) P)
@@ -217,6 +260,13 @@ module _ {M : Type 1} {𝓤 : Ura M} {𝓛 : Logic 𝓤} {K : Type 0}
   pub has : K → (T : Declared) (L : LL.Laws T) → Plains (fields T) → (n : T.D) → Is (row T) n (LL.vals T L n)
       → Step K 𝓛 (‵ ((row T).own_val n (LL.vals T L n)) ∷ Γ) G Γ G
   has t T L plains n is = owned t (row T) (Is (row T)) (LL.makes T plains 𝓛) n (LL.vals T L n) is
+
+  -- nor does a `Result` of plain data with a refusal
+  pub has_made : K → (D : Data) (r : Made D) → IsMade D r (made_val D r)
+      → Step K 𝓛 (‵ ((made_row D).own_val r (made_val D r ∷ [])) ∷ Γ) G Γ G
+  has_made t D r is =
+      owned t (made_row D) (Is (made_row D)) (EL.makes (made_type D) (R'.the_plain D.row F.the_row D.plain
+      F'.the_row_plain) 𝓛) r (made_val D r ∷ []) is
 
 module _ {M : Type 1} {𝓤 : Ura M} {𝓛 : Logic 𝓤} {K : Type 0}
     {Γ : List (Item 𝓤)} where
@@ -263,12 +313,12 @@ module _ {M : Type 1} {𝓤 : Ura M} {𝓛 : Logic 𝓤} {K : Type 0}
           (via 𝓤 (⋆ 𝓛 (R ++ F)) (++⊢ 𝓛 R F) s.prf));
     })
 
-    -- the locals lie on top: vs has a place for each
-    pub leaves : K → {E : Env 𝓤 H} {Γ' : List (Item 𝓤)} (vs : List Val) → Γ ≡ stacked 𝓛 E vs Γ'
+    -- the locals lie on top, each with its value: vs has a place for each
+    pub leaves : K → {E : Env 𝓤 H} {Γ' : List (Item 𝓤)} (vs : List Val) → Γ ≡ stacked 𝓛 E (map some vs) Γ'
         → Step K 𝓛 Γ' G Γ (frees E G)
     leaves t {E} {Γ'} vs e = step (λ s. record {
       prf = subst (λ (Δ : List (Item 𝓤)). ent 𝓤 (⋆ 𝓛 Δ) (release 𝓤 H E (aim 𝓤 H G))) (sym e)
-          (released 𝓛 𝓛.laws E vs Γ' (aim 𝓤 H G) s.prf);
+          (released 𝓛 𝓛.laws E (map some vs) Γ' (aim 𝓤 H G) s.prf);
     })
 
     pub opens_board : K → Soaks G → {κ : Lft} {q : Share} (x : MutBor Board)

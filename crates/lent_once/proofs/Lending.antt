@@ -1,5 +1,5 @@
--- A local board lent to a call, and taken back: two steps of the kit's calculus; and the machine value of
--- `Left`.
+-- A local board lent to a call, and taken back: two steps of the kit's calculus; and the machine value of the
+-- pair that is given: what the call gave, and the board that it left.
 --     lends-board      the local's cell becomes a reference, for a lifetime ν that is made for the call
 --     takes_back       ν is ended, and the cell comes back with the last board under the reference's name
 use mathlib.Core.Path.{subst}
@@ -10,7 +10,12 @@ use seplogic.Ra.Ura.{Ura}
 use base.Fraction.{full_share}
 use base.Fml.{GName, fat, fsep, flft, flent, fres}
 use base.Logic.{ent, sep}
+use denote.Enum.Laws as EL
 use denote.Laws.{Is, shows}
+use denote.Struct.Declared.{Declared, row, shape}
+use denote.Struct.Struct.{layout}
+use denote.Struct.Tuple.{tuple_type, parts_laws, AllPlain}
+use denote.RattleType.{RattleType}
 use denote.Lend.{lends_ref, ref_back}
 use denote.Memory.{mem, part_of, cell_at}
 use denote.Ref.{MutBor, MutRef}
@@ -18,43 +23,61 @@ use denote.Steps.{peeks}
 use denote.Struct.Laws as LL
 use denote.Struct.Steps.{spelt}
 use types.Logic.{Logic, sem}
-use mir.Syntax.{named}
+use mir.Syntax.{Ty, named}
 use mir.Val.{Val, WT, has_ty, vptr}
 use types.Kit.{Goal, Item, Seq, Soaks, ‵, some, later, ◌⊛◌, ⋆, ◌$◌, ◌∵◌, !, qed, move, drop, use1}
 use types.Kit.{use2, use3, split, fsplit, fjoin, fpick, fpack, pick, await, done}
 use types.SemTy.{Body}
 use types.Tokens.{lft_new, lft_end}
-use Rattle.board.specs.declared.Answer.{Answer}
+use Rattle.std.proofs.result.Result.TheLaws as R'
 use Rattle.board.specs.declared.Board.{Board}
-use Rattle.board.specs.contracts.Answer as An
-use Rattle.board.proofs.Answer.TheLaws as An'
 use Rattle.board.specs.contracts.Board as B
 use Rattle.board.proofs.Board.TheLaws as B'
-use Rattle.lending.proofs.Steps.{board_val, IsBoard, has}
-use Rattle.lending.specs.declared.Left.{Left}
-use Rattle.lending.specs.contracts.Left as L
-use Rattle.lending.proofs.Left.TheLaws as L'
+use Rattle.board.specs.contracts.Refusal as F
+use Rattle.board.proofs.Refusal.TheLaws as F'
+use Rattle.lending.proofs.Steps.{board_val, IsBoard, Data, Made, made_type, made_row, made_laws}
+use Rattle.lending.proofs.Steps.{made_val, IsMade, has}
 
-abbrev pub left_val : Left → Val
-left_val = LL.val L.the_type L'.the_laws
+module _ (D : Data) where
+  abbrev rows : List RattleType
+  rows = made_row D ∷ B.the_row ∷ []
 
-abbrev pub left : Answer → Board → Left
-left a d = record { answer = a; board = d }
+  abbrev pub left_type : Declared
+  left_type = tuple_type rows
 
--- made of an answer and a board, with the machine values w and the board's
-pub made :
-    (a : Answer) (w : Val) (d : Board) → Is An.the_row a (w ∷ []) → IsBoard d
-    → Is L.the_row (left a d) (left_val (left a d) ∷ [])
-made a w d is d_is =
-    LL.owes L.the_type L'.the_laws (left a d)
-    (subst (Is An.the_row a) (LL.tells An.the_type An'.the_laws a _ is) is, (d_is, tt))
+  abbrev pub left_row : RattleType
+  left_row = row left_type
 
-pub left_typed :
-    {M : Type 1} {𝓤 : Ura M} → (𝓛 : Logic 𝓤) → (a : Answer) (w : Val) (d : Board)
-    → Is An.the_row a (w ∷ []) → IsBoard d
-    → Holds (has_ty L'.mir (left_val (left a d))) × WT (left_val (left a d))
-left_typed {𝓤 = 𝓤} 𝓛 a w d is d_is =
-    ((LL.lawful L.the_type L'.the_laws 𝓛).typed (left a d) _ (made a w d is d_is)).0
+  abbrev pub left_laws : LL.Laws left_type
+  left_laws =
+      parts_laws rows
+      (R'.the_row_laws D.row F.the_row D.laws F'.the_row_laws, (B'.the_row_laws, tt))
+      (R'.the_told D.row F.the_row D.laws F'.the_row_laws D.told F'.the_told, (B'.the_told, tt))
+
+  abbrev pub left_plain : AllPlain rows
+  left_plain = (R'.the_row_plain D.row F.the_row D.plain F'.the_row_plain, (B'.the_row_plain, tt))
+
+  abbrev pub left_ty : Ty
+  left_ty = layout (shape left_type)
+
+  abbrev pub left_val : Made D × Board → Val
+  left_val = LL.val left_type left_laws
+
+  -- of a `Result` and a board
+  pub of_both :
+      (r : Made D) (d : Board) → IsMade D r (made_val D r) → IsBoard d
+      → Is left_row (r, d) (left_val (r, d) ∷ [])
+  of_both r d is d_is = LL.owes left_type left_laws (r, d) (is, (d_is, tt))
+
+  pub left_typed :
+      {M : Type 1} {𝓤 : Ura M} → (𝓛 : Logic 𝓤) → (r : Made D) (d : Board)
+      → IsMade D r (made_val D r) → IsBoard d
+      → Holds (has_ty left_ty (left_val (r, d))) × WT (left_val (r, d))
+  left_typed 𝓛 r d is d_is = ((LL.lawful left_type left_laws 𝓛).typed (r, d) _ (of_both r d is d_is)).0
+
+-- a `Result` that has some machine value has its own
+pub as_made : (D : Data) (r : Made D) (w : Val) → IsMade D r w → IsMade D r (made_val D r)
+as_made D r w is = subst (Is (made_row D) r) (EL.tells (made_type D) (made_laws D) r _ is) is
 
 -- the reference to the local at l, under the name γ, where the board h lies
 abbrev pub at : Board → ℕ → GName → MutBor Board

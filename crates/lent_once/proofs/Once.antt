@@ -1,6 +1,6 @@
--- One walk for three calls of the form that crate lending walks, run lent on a board by value: over its `Call`.
---     fn f(b: Board, list: &mut [u32], q: Q) -> Left {
---         let mut board = b; let answer = live::f(&mut board, list, q); Left { answer, board } }
+-- One walk for admit, act and withdraw, run lent on a board by value: over the `Call` of the lent layer.
+--     fn f(b: Board, list: &mut [u32], q: Q) -> (Result<S, Refusal>, Board) {
+--         let mut board = b; let given = live::f(&mut board, list, q); (given, board) }
 --     once-.., once    the signature and contract and the MIR, as `rattle check` makes them of each call
 --     runs-once        where the lent call meets its contract, this meets its own
 -- The board goes into a local, which is lent to the call and taken back with what the call left there.
@@ -29,6 +29,7 @@ use types.Part.{agg, whole, sub, look_in}
 use sound.WpLaws.{FmC, fm_of, WpFn-mono}
 use denote.RattleType.{owns}
 use denote.Memory.{mem, pointee}
+use denote.Enum.Laws as EL
 use denote.Laws.{Is, shows}
 use denote.Builtin.{u32, SliceRefMutOf}
 use denote.Ref.{MutBor, MutRef}
@@ -46,20 +47,22 @@ use denote.Triple.Clauses.{Ended, Clauses, closing, ensured, lasts}
 use denote.Triple.Walked.{says, Stays, stay_none, gave_slice, walk_of, Goes-none, Goes-gave_slice, Walks}
 use denote.Triple.Walked.{ends_at, walked, walk_Meets}
 use denote.Exit.{yes, Last}
-use Rattle.board.specs.declared.Answer.{Answer}
 use Rattle.board.specs.declared.Board.{Board}
-use Rattle.board.specs.contracts.Answer as An
-use Rattle.board.proofs.Answer.TheLaws as An'
 use Rattle.board.specs.contracts.Board as B
 use Rattle.board.proofs.Board.TheLaws as B'
-use Rattle.lending.proofs.Layer.{Call, Q, ask_val, lent_ended, lent_clauses}
-use Rattle.lending.proofs.Steps.{board_val, IsBoard, entry_ref, list_ref, board_typed, answer_typed, at_local}
-use Rattle.lending.proofs.Steps.{at_field, sets, has, sinks, leaves}
-use Rattle.lending.specs.contracts.Left as L
-use Rattle.lending.proofs.Left.TheLaws as L'
-use Rattle.lent_once.proofs.Lending.{left, left_val, made, left_typed, at, lends_board, takes_back}
+use Rattle.lending.proofs.Layer.{Call, Q, ask_val, Given, given_row, given_answer, lent_ended, lent_clauses}
+use Rattle.lending.proofs.Steps.{board_val, IsBoard, entry_ref, list_ref, board_typed, Data, made_type}
+use Rattle.lending.proofs.Steps.{made_laws, made_ty, made_val, IsMade, made_typed, at_local, at_field, sets}
+use Rattle.lending.proofs.Steps.{has, sinks, leaves}
+use Rattle.lending.proofs.Telling.{told}
+use Rattle.lent_once.proofs.Lending.{left_type, left_row, left_laws, left_plain, left_ty, left_val, of_both}
+use Rattle.lent_once.proofs.Lending.{left_typed, as_made, at, lends_board, takes_back}
 
 module _ (c : Call) where
+  -- what the call gives, with its laws
+  abbrev D : Data
+  D = told c.telling
+
   -- ---- the signature, the contracts and the MIR
 
   abbrev pub once_ended : Ended
@@ -69,7 +72,7 @@ module _ (c : Call) where
       outlives = [];
       params = plain (λ _. B.the_row) ∷ SliceRefMutOf (0 ∷ []) tt (plain (λ _. u32)) (λ _. tt)
           ∷ plain (λ _. Q c) ∷ [];
-      result = plain (λ _. L.the_row);
+      result = plain (λ _. left_row D);
     };
     kept = (yes, (yes, (yes, tt)));
   }
@@ -79,7 +82,7 @@ module _ (c : Call) where
     ghost = Unit {0};
     requires = λ _. emp 𝓤;
     ensures = λ _ r e. fact 𝓤
-        (c.Promise a.0 a.1.0.now a.1.1.0 r.answer r.board e.1.0.now);
+        (c.Promise a.0 a.1.0.now a.1.1.0 (given_answer c r.0) r.1 e.1.0.now);
   }
 
   abbrev pub Lent : {M : Type 1} {𝓤 : Ura M} (𝓛 : Logic 𝓤) → Contract 𝓤
@@ -92,8 +95,8 @@ module _ (c : Call) where
     (gave_slice (0 ∷ []) tt (plain (λ _. u32)), (stay_none (λ _. Q c) yes, tt)),
   )
 
-  -- _1 is b, _2 list, _3 q, _4 board, _5 answer; _6 the local lent, _7 and _8 the list lent on, _9 a copy
-  -- of the board
+  -- _1 is b, _2 list, _3 q, _4 board, _5 what the call gave; _6 the local lent, _7 and _8 the list lent on,
+  -- _9 a copy of the board
   abbrev pub once : Callee → Fn
   once f = record {
     lifetimes = 1;
@@ -101,9 +104,9 @@ module _ (c : Call) where
     ty_params = [];
     givens = 0;
     params = 3;
-    locals = local L'.mir value_local ∷ local B'.mir value_local ∷ local (list_ref (named 0)) value_local
-        ∷ local (layout (shape c.asked)) value_local ∷ local B'.mir memory_slot ∷ local An'.mir value_local
-        ∷ local (ty_ref erased mut (pointee (B.the_row).written)) value_local
+    locals = local (left_ty D) value_local ∷ local B'.mir value_local ∷ local (list_ref (named 0)) value_local
+        ∷ local (layout (shape c.asked)) value_local ∷ local B'.mir memory_slot
+        ∷ local (made_ty D) value_local ∷ local (ty_ref erased mut (pointee (B.the_row).written)) value_local
         ∷ local (entry_ref erased) value_local
         ∷ local (list_ref erased) value_local ∷ local B'.mir value_local ∷ [];
     body = seq (assign (place 4 []) (rv_opd (copy (place 1 []))))
@@ -135,8 +138,8 @@ module _ (c : Call) where
     abbrev Post : Val → SProp 𝓤
     Post = (walk_of 𝓛 once_ended stayed (once_clauses 𝓤)).post (((κ, tt), (q, tt), tt, args, vals), tt)
 
-    abbrev Promised : Answer → Board → List ℕ → Type 0
-    Promised = c.Promise h y.now n
+    abbrev Promised : Given c → Board → List ℕ → Type 0
+    Promised r = c.Promise h y.now n (given_answer c r)
 
     -- the list's token; the list lent; its last entries
     abbrev token : Item 𝓤
@@ -161,20 +164,21 @@ module _ (c : Call) where
         -- [the list; the request; the board; the token]
         keep ! (3 ∷ 0 ∷ []) $ done !
 
-    -- how the walk ends: with the answer a and the board d
-    exits : (a : Answer) (w : Val) (d : Board) (zs : List ℕ) → Promised a d zs → length zs ≡ length y.now
-        → Is An.the_row a (w ∷ []) → IsBoard d → ent 𝓤 (⋆ 𝓛 (spent zs ∷ [])) (Post (left_val (left a d)))
-    exits a w d zs promised long is d_is =
+    -- how the walk ends: with r given and the board d
+    exits : (r : Given c) (d : Board) (zs : List ℕ) → Promised r d zs → length zs ≡ length y.now
+        → IsMade D r (made_val D r) → IsBoard d
+        → ent 𝓤 (⋆ 𝓛 (spent zs ∷ [])) (Post (left_val D (r, d)))
+    exits r d zs promised long is d_is =
         qed 𝓛 (spent zs ∷ []) ∵
         suffices ! _
         (ends_at 𝓛 once_ended stayed (once_clauses 𝓤) (((κ, tt), (q, tt), tt, args, vals), tt)
-        (left_val (left a d)) (left a d) (tt, (zs, (c.last n, tt))) (tt, (long, (tt, tt)))) $
+        (left_val D (r, d)) (r, d) (tt, (zs, (c.last n, tt))) (tt, (long, (tt, tt)))) $
         says ! promised $ split ! $ frame ! $ split ! $ fjoin ! $
         -- what is had of the request, the list and the board, and of the result
         nothing ! $ has ! c.asked c.laws c.plains n n-is $ fjoin ! $
         move ! (1 ∷ 0 ∷ []) $ fjoin ! $
         has ! B.the_type B'.the_laws B'.the_plain h h_is $ fjoin ! $
-        has ! L.the_type L'.the_laws L'.the_plain (left a d) (made a w d is d_is) $
+        has ! (left_type D) (left_laws D) (left_plain D) (r, d) (of_both D r d is d_is) $
         move ! (1 ∷ 0 ∷ []) $ done !
 
     -- at the local l, lent for the lifetime ν under the name γ
@@ -203,39 +207,39 @@ module _ (c : Call) where
           move ! (3 ∷ 0 ∷ []) $ fjoin ! $ move ! (2 ∷ 0 ∷ []) $ fjoin ! $
           move ! (1 ∷ 0 ∷ []) $ join ! $ frame ! $ done !
 
-      -- what it gives: some answer a, board d and last entries zs, as promised
-      abbrev found : Val → Answer → Board → List ℕ → Item 𝓤
-      found w a d zs =
-          given (length zs ≡ length y.now) (given (Promised a d zs × Is An.the_row a (w ∷ []))
+      -- what it gives: some r, board d and last entries zs, as promised
+      abbrev found : Val → Given c → Board → List ℕ → Item 𝓤
+      found w r d zs =
+          given (length zs ≡ length y.now) (given (Promised r d zs × IsMade D r w)
           (‵ (flft (ν ∷ []) full_share) ⊛ (‵ (fres γ ((B.the_row).coded.code d)) ⊛ spent zs)))
 
-      abbrev some_found : Val → Answer → Item 𝓤
-      some_found w a = some (λ (d : Board). some (found w a d))
+      abbrev some_found : Val → Given c → Item 𝓤
+      some_found w r = some (λ (d : Board). some (found w r d))
 
       came : (w : Val) → ent 𝓤 ((Lent 𝓛).post to_lent w) (mean 𝓛 (later (some (some_found w))))
       came w =
           qed 𝓛
-          (later (some (λ (a : Answer). ((‵ (flft (ν ∷ []) full_share) ⊛ token)
-          ⊛ ‵ ((An.the_row).own_val a (w ∷ [])))
+          (later (some (λ (r : Given c). ((‵ (flft (ν ∷ []) full_share) ⊛ token)
+          ⊛ ‵ ((given_row c).own_val r (w ∷ [])))
           ⊛ raw (ensured 𝓛 (lent_ended c) (lent_clauses c 𝓤) (ν ∷ [], (κ, tt)) (at h l γ, (y, (n, tt))) tt
-          a)))
+          r)))
           ∷ []) ∵
-          updating ! $ await ! tt $ pick ! (λ a. split ! $ move ! (1 ∷ []) $
+          updating ! $ await ! tt $ pick ! (λ r. split ! $ move ! (1 ∷ []) $
           use1 𝓛 (some (λ (zs : Board × (List ℕ × (Last ((Q c).exit yes) n × Unit {0}))).
           ‵ (lasts (lent_ended c) (ν ∷ [], (κ, tt)) (at h l γ, (y, (n, tt))) zs)
-          ⊛ raw (fact 𝓤 (Promised a zs.0 zs.1.0)))) (id⊢ 𝓤 _) $
-          pick ! (λ zs. split ! $ move ! (1 ∷ []) $ heard ! (Promised a zs.0 zs.1.0) (λ e.
-          -- [what is last of board, list and request; the tokens and what the answer owns]
+          ⊛ raw (fact 𝓤 (Promised r zs.0 zs.1.0)))) (id⊢ 𝓤 _) $
+          pick ! (λ zs. split ! $ move ! (1 ∷ []) $ heard ! (Promised r zs.0 zs.1.0) (λ e.
+          -- [what is last of board, list and request; the tokens and what r owns]
           fsplit ! $ move ! (1 ∷ []) $ fsplit ! $ fsplit ! $ fsplit ! $ move ! (1 ∷ []) $ feq_l ! (λ long.
           -- [the list's last entries; what stays of its borrow; the request's; the last board; the tokens and
-          -- what the answer owns]
+          -- what r owns]
           move ! (4 ∷ []) $ split ! $ split ! $ move ! (2 ∷ []) $
-          peeks ! An.the_row (Is An.the_row) (shows 𝓛 An.the_row) a (w ∷ []) (λ is.
-          -- [what the answer owns; the local's token; the list's; its last entries; what stays of its borrow;
+          peeks ! (given_row c) (Is (given_row c)) (shows 𝓛 (given_row c)) r (w ∷ []) (λ is.
+          -- [what r owns; the local's token; the list's; its last entries; what stays of its borrow;
           -- the request's; the last board]
-          at_once ! $ show ! (λ (o : Answer). mean 𝓛 (some_found w o)) a $
-          show ! (λ (d : Board). mean 𝓛 (some (found w a d))) zs.0 $
-          show ! (λ (us : List ℕ). mean 𝓛 (found w a zs.0 us)) zs.1.0 $
+          at_once ! $ show ! (λ (o : Given c). mean 𝓛 (some_found w o)) r $
+          show ! (λ (d : Board). mean 𝓛 (some (found w r d))) zs.0 $
+          show ! (λ (us : List ℕ). mean 𝓛 (found w r zs.0 us)) zs.1.0 $
           check ! long $ check ! (e, is) $ move ! (3 ∷ 4 ∷ []) $ join ! $ move ! (3 ∷ 0 ∷ []) $ join ! $
           move ! (4 ∷ []) $ fsplit ! $ keep ! (4 ∷ 0 ∷ 2 ∷ []) $
           done !)))))
@@ -274,11 +278,11 @@ module _ (c : Call) where
           (and_then ! (at_local ! 8 refl)
           (and_then ! (at_local ! 4 refl) (and_then ! (at_local ! 13 refl) (no_more !))))
           (λ w. use1 𝓛 (later (some (some_found ν l₄ γ w))) (came ν l₄ γ w) $ await ! tt $
-          pick ! (λ a. pick ! (λ d. pick ! (λ zs. learn ! (λ long. learn ! (λ k.
+          pick ! (λ r. pick ! (λ d. pick ! (λ zs. learn ! (λ long. learn ! (λ k.
           -- [its token, the last board and the list, spent; the lender's part; _9; …]
-          land ! (from ! (stop !)) (init ! 10 refl (answer_typed 𝓛 a k.1)) $
-          rewrite ! 10 (λ (u : Val). ‵ (fat full_share An'.mir l₅ 0 u))
-          (ap only (LL.tells An.the_type An'.the_laws a _ k.1)) refl $
+          land ! (from ! (stop !)) (init ! 10 refl (made_typed D 𝓛 r k.1)) $
+          rewrite ! 10 (λ (u : Val). ‵ (fat full_share (made_ty D) l₅ 0 u))
+          (ap only (EL.tells (made_type D) (made_laws D) r _ k.1)) refl $
           -- the local is taken back, and its cell put among the others
           split ! $ move ! (1 ∷ []) $ split ! $ move ! (2 ∷ 3 ∷ 0 ∷ []) $ takes_back ! tt d l₄ (λ g.
           move ! (1 ∷ 2 ∷ 3 ∷ 4 ∷ 5 ∷ 6 ∷ 7 ∷ 8 ∷ 9 ∷ 10 ∷ 11 ∷ 0 ∷ []) $
@@ -286,10 +290,10 @@ module _ (c : Call) where
           sets ! (of_opd ! (at_local ! 11 refl)) 1 refl (board_typed 𝓛 d g) $
           -- the result is made, and the locals are freed
           sets ! (agg ! (and_then ! (at_local ! 9 refl) (and_then ! (at_local ! 1 refl) (no_more !)))) 19 refl
-          (left_typed 𝓛 a w d k.1 g) $
+          (left_typed D 𝓛 r d (as_made D r w k.1) g) $
           returns ! (look ! 19 refl) $ sinks ! 1 $
           leaves ! (_ ∷ _ ∷ _ ∷ _ ∷ _ ∷ _ ∷ _ ∷ _ ∷ _ ∷ _ ∷ []) refl $
-          by ! (exits a w d zs k.0 long k.1 g))))))))))))))))))))
+          by ! (exits r d zs k.0 long (as_made D r w k.1) g))))))))))))))))))))
 
   -- ---- the theorem
 

@@ -1,5 +1,6 @@
--- What admit, act and withdraw ask and promise, for the walk in crate lending.
-use mathlib.Core.Path.{refl}
+-- What admit, act and withdraw ask, answer and promise, for the walk that they share.
+use mathlib.Core.Path.{refl, subst}
+use Prim.Native.Nat.{ℕ}
 use Rattle.requests.specs.contracts.RequestAdmit as RequestAdmit
 use Rattle.requests.proofs.RequestAdmit.TheLaws as RequestAdmit'
 use Rattle.requests.specs.contracts.RequestAct as RequestAct
@@ -9,7 +10,9 @@ use Rattle.requests.proofs.RequestWithdraw.TheLaws as RequestWithdraw'
 use Rattle.act.specs.ActsNow.{ActsNow}
 use Rattle.admit.specs.Admits.{Admits}
 use Rattle.withdraw.specs.Withdraws.{Withdraws}
+use Rattle.board.specs.Answers.{done_answer}
 use Rattle.lending.proofs.Layer.{Call}
+use Rattle.lending.proofs.Telling.{no_serial, its_serial}
 
 abbrev pub admitting : Call
 admitting = record {
@@ -18,8 +21,9 @@ admitting = record {
   plains = RequestAdmit'.the_plain;
   last = λ _. tt;
   silent = λ _ _. refl;
+  telling = its_serial;
   Promise = Admits;
-  kept = λ b l n a b' l' promised f. (promised.refused f).0;
+  tells = λ b l n a l' promised. promised;
 }
 
 abbrev pub acting : Call
@@ -29,8 +33,10 @@ acting = record {
   plains = RequestAct'.the_plain;
   last = λ _. tt;
   silent = λ _ _. refl;
+  telling = no_serial;
   Promise = ActsNow;
-  kept = λ b l n a b' l' promised f. (promised.refused f).0;
+  tells = λ b l n a l' promised.
+      subst (λ (k : ℕ). ActsNow b l n (done_answer k) a.board l') (promised.accepted refl).1 promised;
 }
 
 abbrev pub withdrawing : Call
@@ -40,6 +46,8 @@ withdrawing = record {
   plains = RequestWithdraw'.the_plain;
   last = λ _. tt;
   silent = λ _ _. refl;
+  telling = no_serial;
   Promise = Withdraws;
-  kept = λ b l n a b' l' promised f. (promised.refused f).0;
+  tells = λ b l n a l' promised.
+      subst (λ (k : ℕ). Withdraws b l n (done_answer k) a.board l') (promised.accepted refl).1 promised;
 }

@@ -1,6 +1,7 @@
 // The calls on the live board, which is lent to them: each leaves its outcome there. A thin layer over the
 // calls by value, with their promises. Each is of its own request and promise, so one generic function over
 // them, with a trait for the request, would be no plainer.
+// The three that are lent a list are written as the match that `?` stands for: crate lending walks that code.
 #![tactic(auto)]
 
 ghost use Rattle.board.specs.Answers.{done_answer};
@@ -35,18 +36,26 @@ pub fn open(b: &mut Board, s: &[u8], list: &mut [u32]) -> Result<(), Refusal>
 pub fn admit(b: &mut Board, list: &mut [u32], q: RequestAdmit) -> Result<Serial, Refusal>
     ensures { Admits b.old list.old q (answered (λ s. done_answer s.0) result) b.new list.new }
 {
-    let accepted = admit::admit(*b, list, q)?;
-    *b = accepted.board;
-    Ok(accepted.serial)
+    match admit::admit(*b, list, q) {
+        Ok(accepted) => {
+            *b = accepted.board;
+            Ok(accepted.serial)
+        }
+        Err(refusal) => Err(refusal),
+    }
 }
 
 // Act now.
 pub fn act(b: &mut Board, list: &mut [u32], q: RequestAct) -> Result<(), Refusal>
     ensures { ActsNow b.old list.old q (answered plainly_done result) b.new list.new }
 {
-    let accepted = act::act(*b, list, q)?;
-    *b = accepted.board;
-    Ok(())
+    match act::act(*b, list, q) {
+        Ok(accepted) => {
+            *b = accepted.board;
+            Ok(())
+        }
+        Err(refusal) => Err(refusal),
+    }
 }
 
 // Do an open duty.
@@ -62,7 +71,11 @@ pub fn do_duty(b: &mut Board, q: RequestDo) -> Result<(), Refusal>
 pub fn withdraw(b: &mut Board, list: &mut [u32], q: RequestWithdraw) -> Result<(), Refusal>
     ensures { Withdraws b.old list.old q (answered plainly_done result) b.new list.new }
 {
-    let accepted = withdraw::withdraw(*b, list, q)?;
-    *b = accepted.board;
-    Ok(())
+    match withdraw::withdraw(*b, list, q) {
+        Ok(accepted) => {
+            *b = accepted.board;
+            Ok(())
+        }
+        Err(refusal) => Err(refusal),
+    }
 }
