@@ -7,7 +7,9 @@ ghost use Rattle.values.specs.Places.{Tests, part_good, Tells, TellsOfTwo};
 
 use board::{Board, Duty, Permission, Rule, Serial, What};
 
-// Whether these records each fit, and each is above the one before it.
+// Whether these records each fit, and each is above the one before it. The one before is carried along and
+// the two tests return apart: with pairs of neighbours, or with both tests in one, the test of a full board
+// takes more instructions.
 fn part_fits<T, F: Fn(&T) -> bool, G: Fn(&T, &T) -> bool>(used: &[T], fits: F, below: G) -> bool
     requires fits { F.IsAlwaysCallable fits }
     requires below { G.IsAlwaysCallable below }
@@ -16,11 +18,20 @@ fn part_fits<T, F: Fn(&T) -> bool, G: Fn(&T, &T) -> bool>(used: &[T], fits: F, b
 {
     match used.split_first() {
         Some((first, others)) => {
-            fits(first)
-                && used
-                    .iter()
-                    .zip(others)
-                    .all(|(before, x)| fits(x) & below(before, x))
+            if !fits(first) {
+                return false;
+            }
+            let mut before = first;
+            for x in others {
+                if !fits(x) {
+                    return false;
+                }
+                if !below(before, x) {
+                    return false;
+                }
+                before = x;
+            }
+            true
         }
         None => true,
     }
