@@ -1,7 +1,7 @@
 // The calls on the live board, which is lent to them: each leaves its outcome there. A thin layer over the
 // calls by value, with their promises. Each is of its own request and promise, so one generic function over
 // them, with a trait for the request, would be no plainer.
-// The three that are lent a list are written as the match that `?` stands for: crate lending walks that code.
+// Admit, act and withdraw are written as the match that `?` stands for: crate lending walks that code.
 #![tactic(auto)]
 
 ghost use Rattle.board.specs.Answers.{done_answer};

@@ -48,7 +48,7 @@ fn digit(bits: u8) -> u8 {
 // How many bytes are put in hexadecimal together.
 const ROW: usize = 32;
 
-// Put bytes in hexadecimal, a row of them at a time: a formatted write for each takes ten times as long.
+// Put bytes in hexadecimal, a row of them at a time: a formatted write for each takes several times as long.
 fn put_bytes(out: &mut impl Write, bytes: &[u8]) -> io::Result<()> {
     for row in bytes.chunks(ROW) {
         let mut text = [0u8; 2 * ROW];
