@@ -19,7 +19,7 @@ impl Stored for u16 {
     ghost bytes = { two_bytes };
 
     fn put(self, file: &mut Writer<'_>) {
-        file.put(&u16::to_le_bytes(self));
+        put_bytes(&u16::to_le_bytes(self), file);
     }
 }
 
@@ -27,6 +27,16 @@ impl Stored for u32 {
     ghost bytes = { four_bytes };
 
     fn put(self, file: &mut Writer<'_>) {
-        file.put(&u32::to_le_bytes(self));
+        put_bytes(&u32::to_le_bytes(self), file);
     }
+}
+
+// Put bytes that have room, with no test of it.
+fn put_bytes(bytes: &[u8], file: &mut Writer<'_>)
+    requires { HasRoom (length bytes.now) file.old }
+    ensures { Writes bytes.now file.old file.new }
+{
+    let end = file.at + bytes.len();
+    file.room[file.at..end].copy_from_slice(bytes);
+    file.at = end;
 }
