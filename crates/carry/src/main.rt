@@ -10,15 +10,27 @@ use std::io;
 // The most bytes that are read.
 const ROOM: usize = 65536;
 
-// The board after a record: a poke, a call, or neither, which leaves it as it is.
-fn turn(b: Board, r: Record) -> Board {
-    if Kind::try_from(r.kind) == Ok(Kind::Poke) {
-        return session::poked(b, r);
-    }
+// Set the number of the board that a record names.
+fn poke(board: &mut Board, r: Record) {
+    *board = session::poked(*board, r);
+}
+
+// Make the call that a record asks for; one that asks for none leaves the board as it is.
+fn call(board: &mut Board, r: Record) {
     let mut list = [0u32; LENT];
     let n = session::lent_by(r.lent);
-    let called = session::called(b, r, &mut list[..n]);
-    outcomes::board_left(&b, &called)
+    let called = session::called(*board, r, &mut list[..n]);
+    outcomes::leave(board, &called);
+}
+
+// Poke the board, or make a call. Each has a function of its own: in one, room for the boards of both is made
+// at each record.
+fn turn(board: &mut Board, r: Record) {
+    if Kind::try_from(r.kind) == Ok(Kind::Poke) {
+        poke(board, r);
+    } else {
+        call(board, r);
+    }
 }
 
 // Put the file of the board after the calls at the start of the buffer, and answer its length; or why there
@@ -29,7 +41,7 @@ fn carried(s: &[u8], buffer: &mut [u8]) -> Result<usize, Refusal> {
     let mut list = [0u32; Board::DUTIES];
     let mut board = open::open(&s[first..end], &mut list)?;
     for bytes in s[end..].chunks_exact(SIZE) {
-        board = turn(board, session::record_of(bytes));
+        turn(&mut board, session::record_of(bytes));
     }
     verdict::check(board, &mut list)?;
     save::save(board, buffer)

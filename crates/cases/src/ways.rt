@@ -43,9 +43,11 @@ impl Way for ByValue {
             Ask::Do(q) => do_duty::do_duty(b, q),
             Ask::Withdraw(q) => withdraw::withdraw(b, list, q),
         };
+        let mut board = b;
+        outcomes::leave(&mut board, &called);
         Left {
             answer: called.map_or_else(Answer::from, |accepted| Answer::done(accepted.serial)),
-            board: outcomes::board_left(&b, &called),
+            board,
         }
     }
 }

@@ -26,8 +26,9 @@ fn put_number(n: u64, line: &mut Writer<'_>)
     ensures { Writes (numbers (n ∷ [])) line.old line.new }
 {
     let mut digits = Buffer::new();
+    let spelled = digits.format(n).as_bytes();
     line.put(b" ");
-    line.put(digits.format(n).as_bytes());
+    line.put(spelled);
 }
 
 // Put the numbers of a list, each with a space before it.

@@ -19,13 +19,14 @@ pub struct Accepted {
     pub serial: Serial,
 }
 
-// The board that a call leaves: where it was accepted the one after it, else the board b that it was given.
-pub fn board_left(b: &Board, called: &Result<Accepted, Refusal>) -> Board
-    ensures { result ≡ board_left b.now called.now }
+// b is the board that a call was given. Where the call was accepted the board after it is put there, else b
+// stays.
+pub fn leave(b: &mut Board, called: &Result<Accepted, Refusal>)
+    ensures { b.new ≡ board_left b.old called.now }
 {
     match called {
-        Ok(accepted) => accepted.board,
-        Err(_) => *b,
+        Ok(accepted) => *b = accepted.board,
+        Err(_) => {}
     }
 }
 

@@ -86,8 +86,7 @@ pub fn joined(a: u16, b: u16) -> u32
     a as u32 * 65536 + (b as u32)
 }
 
-// Whether a permission is below another, by action and then object. They are compared as one number, since
-// the test of a full board takes a seventh longer where pairs are compared.
+// Whether a permission is below another, by action and then object: compared as one number.
 #[tactic(auto, using(crate::proofs::Pairs::joined_below))]
 pub fn permission_below(p: Permission, q: Permission) -> bool
     ensures { result ≡ g.permission_below p q }

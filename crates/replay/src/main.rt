@@ -56,7 +56,7 @@ impl Live {
         let mut list = marked();
         let n = session::lent_by(r.lent);
         let called = session::called(self.board, r, &mut list[..n]);
-        self.board = outcomes::board_left(&self.board, &called);
+        outcomes::leave(&mut self.board, &called);
         self.note(is_kept(&list, &called), number);
         put_answer(
             out,

@@ -84,8 +84,14 @@ pub fn called(b: Board, r: Record, list: &mut [u32]) -> Result<Accepted, Refusal
         Kind::Act => act::act(b, list, RequestAct::from(r)),
         Kind::Do => do_duty::do_duty(b, RequestDo::from(r)),
         Kind::Withdraw => withdraw::withdraw(b, list, RequestWithdraw::from(r)),
-        Kind::Check => verdict::check(b, list).map(|()| unchanged(b)),
-        Kind::Walk => plain::walk(b, list).map(|()| unchanged(b)),
+        Kind::Check => {
+            verdict::check(b, list)?;
+            Ok(unchanged(b))
+        }
+        Kind::Walk => {
+            plain::walk(b, list)?;
+            Ok(unchanged(b))
+        }
         Kind::Save | Kind::Poke => Ok(unchanged(b)),
     }
 }

@@ -2,7 +2,7 @@
 use mathlib.Core.Path.{sym, ◌∙◌}
 use borrow.Author.Rules.{rules}
 use Rattle.std.proofs.Common.{tests}
-use Rattle.values.specs.Places.{holding_tests, permission_tests, rule_tests, duty_tests}
+use Rattle.values.specs.Places.{holding_tests, rule_tests}
 use Rattle.values.proofs.Whole.{not_counted, by_parts}
 use Rattle.values.proofs.is_good.Goals as goal
 
@@ -11,20 +11,15 @@ returns-then-not-counts_fit c = not_counted _ (sym c.counts_fit.ensures ∙ c.if
 
 pub returns : goal.returns
 returns c =
-    let b = c.args.b in
-    let n = b.counts in
+    let n = c.args.b.counts in
     rw (
       c.part_good-holdings.ensures (holding_tests n.roles)
           (λ x r k. search (rules, tests)) (λ x y r k. search (rules, tests))
           (λ x r k. search (rules, tests)),
-      c.part_good-permissions.ensures (permission_tests n.roles)
-          (λ x r k. search (rules, tests)) (λ x y r k. search (rules, tests))
-          (λ x r k. search (rules, tests)),
+      c.permissions_good-permissions.ensures,
       c.part_good-rules.ensures (rule_tests n.roles)
           (λ x r k. search (rules, tests)) (λ x y r k. search (rules, tests))
           (λ x r k. search (rules, tests)),
-      c.part_good-duties.ensures (duty_tests n b.next.0)
-          (λ x r k. search (rules, tests)) (λ x y r k. search (rules, tests))
-          (λ x r k. search (rules, tests)),
+      c.duties_good-duties.ensures,
     )
     (by_parts _ (sym c.counts_fit.ensures ∙ c.if-not-counts_fit.false))

@@ -1,7 +1,6 @@
 -- `values::part_fits` meets its contract: whatever is told of records, the one at hand fits, and it and those
 -- that are left tell of them all.
 use mathlib.Core.Path.{refl}
-use mathlib.Core.Bool.{◌&&◌}
 use Rattle.values.proofs.Neighbours.{begins, passes, fails, ends}
 use Rattle.values.proofs.part_fits.Goals as goal
 
