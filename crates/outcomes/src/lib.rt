@@ -34,7 +34,7 @@ pub fn leave(b: &mut Board, called: &Result<Accepted, Refusal>)
 pub fn ready(b: &Board, room: usize, clock: u32) -> Result<(), Refusal>
     ensures { Answers (ready_checks b.now room clock) (number_answered result) }
 {
-    if !values::is_good(*b) {
+    if !values::is_good_lent(b) {
         return Err(Refusal::Broken);
     }
     if room < Board::DUTIES {

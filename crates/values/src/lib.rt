@@ -155,8 +155,8 @@ fn duties_good(duties: &[Duty], counts: Counts, next: Serial) -> bool
 // ---- the whole
 
 // Whether a board value keeps every rule of the board file and holds the filler beyond each count.
-pub fn is_good(b: Board) -> bool
-    ensures { result ≡ g.good b }
+pub fn is_good_lent(b: &Board) -> bool
+    ensures { result ≡ g.good b.now }
 {
     let counts = b.counts;
     let next = b.next;
@@ -182,4 +182,11 @@ pub fn is_good(b: Board) -> bool
     );
     let duties = duties_good(&b.duties, counts, next);
     holdings & (permissions & (rules & duties))
+}
+
+// The same of a board by value.
+pub fn is_good(b: Board) -> bool
+    ensures { result ≡ g.good b }
+{
+    is_good_lent(&b)
 }
